@@ -99,7 +99,7 @@ no_third s (Some (module_qualifier space)) x f = at (first_at (λ (e : Entry). i
     at (Some found) = no_second s space found.0 found.1.name found.1.is_public found.1.what f
 
 abbrev pub made_tree : Tree → Option Dotted → Term → Tree
-made_tree x y t = record { place = x.place; name = None; dotted = y; term = t }
+made_tree x y t = record { place = x.place; name = None; dotted = y; term = t; declared = x.declared }
 
 -- the names that a name behind another expression makes with that
 abbrev pub JoinedTo : Tree → Identifier → Option Dotted → Type 0
@@ -137,6 +137,7 @@ behind_stands env x f q d e t y m j k base dot below h =
       name_is = refl;
       qualifier_is = joined env x base dot f q y e.pieces below j h.name_is is k (m.pieces ∙ same);
       leaf = tt;
+      declared_is = h.declared_is;
     })
 
 pub makes_behind : (env : Env) (x : Tree) (f : Identifier) (q : Qualifier) (d e : Drafted) (t : Term) (y : Option Dotted) → MakesLeaf env d e t (from_zero (meant_term env f (behind plainly env.scope q f))) → JoinedTo x f y

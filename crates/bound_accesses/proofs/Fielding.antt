@@ -1,6 +1,6 @@
 -- Fields of places and values, and names behind dots that begin an expression.
 use Rattle.std.specs.Prelude.{◌==◌}
-use Rattle.std.proofs.Common.{◌≡◌, ℕ, Bool, true, false, List, [], ◌∷◌, ◌++◌, map, Option, Some, None, is_some, if◌then◌else◌, refl, sym, ap, subst, ◌∙◌, ◌&&◌, not}
+use Rattle.std.proofs.Common.{◌≡◌, ℕ, Bor, Bool, true, false, List, [], ◌∷◌, ◌++◌, map, Option, Some, None, is_some, if◌then◌else◌, refl, sym, ap, subst, ◌∙◌, ◌&&◌, not}
 use Rattle.vba_base.specs.declared.place.Place.{Place}
 use Rattle.vba_lexer.specs.declared.token.Token.{Token}
 use Rattle.vba_words.specs.declared.identifier.Identifier.{Identifier}
@@ -32,6 +32,7 @@ use Rattle.binder.specs.Scopes.{Space, Qualifier, qualifier_of, enum_behind}
 use Rattle.binder.specs.Storage.{types_from, types_of_space, user_types, has_bounds}
 use Rattle.bound_names.specs.bound_members.specs.bound_calls.specs.bound_forms.specs.Terms.{Env, Within, a_place as a_place_term, a_value, no_term, expression_of, member_read, read_of, routine_term}
 use Rattle.bound_names.specs.bound_members.specs.bound_calls.specs.bound_forms.specs.Terms as terms
+use Rattle.bound_names.specs.bound_members.specs.bound_calls.specs.bound_forms.specs.ClassDefaults.{declared_in}
 use Rattle.bound_names.specs.bound_members.specs.bound_calls.specs.bound_forms.specs.ExpressionsBound.{bare_call, behind_term, err_member, field_named, field_of_place, field_of_value, kept_member, member_of, node_or, object_member, sheets_value, unknown_member, term_of, with_field, given_as, typed_term, place_told, class_member, host_behind, is_instance_type, is_of_class, new_term}
 use Rattle.binder.specs.Types.{meant_type, type_meant}
 use Rattle.bound_names.specs.bound_members.specs.bound_calls.specs.bound_declarations.specs.constant_values.specs.declared_names.specs.Outside.{the_outside}
@@ -230,27 +231,27 @@ keeps_object env header of lends f place d e found is none class h =
       stands = subst A (sym is) (subst B (sym (no_type_place env place place (kept_place header) of lends false f none class)) (h.stands place (kept_place header) d.pieces (λ n. refl)));
     }
 
-abbrev with_tree : Token → Term → Tree
-with_tree dot t = record { place = dot.place; name = None; dotted = None; term = t }
+abbrev with_tree : Token → Term → Bor Declarations → Tree
+with_tree dot t known = record { place = dot.place; name = None; dotted = None; term = t; declared = known }
 
-kept_stands : (env : Env) (xs ys : List Item) (d e g : Drafted) (t : Term) (dot : Token) (f : Identifier) → Goes env d xs e ys (λ is. is) → KeepsField env dot.place f e g t → (is : List nodes.Item) (base : Base) → Stands env d.tables xs is d.pieces base
-    → Stands env g.tables (items.Tree (with_tree dot t) ∷ ys) (nodes.tree (with_member dot f) ∷ is) g.pieces base
-kept_stands env xs ys d e g t dot f s k is base h = (
+kept_stands : (env : Env) (xs ys : List Item) (d e g : Drafted) (t : Term) (known : Bor Declarations) (dot : Token) (f : Identifier) → declared_in env.scope ≡ declarations_view known.now → Goes env d xs e ys (λ is. is) → KeepsField env dot.place f e g t → (is : List nodes.Item) (base : Base) → Stands env d.tables xs is d.pieces base
+    → Stands env g.tables (items.Tree (with_tree dot t known) ∷ ys) (nodes.tree (with_member dot f) ∷ is) g.pieces base
+kept_stands env xs ys d e g t known dot f told s k is base h = (
   e.pieces,
   (
-    record { term_is = k.stands; place_is = refl; name_is = refl; qualifier_is = refl; leaf = tt },
+    record { term_is = k.stands; place_is = refl; name_is = refl; qualifier_is = refl; leaf = tt; declared_is = told },
     stands_grows env e.tables g.tables k.grown.tables ys s.named is e.pieces base (s.stands is base h),
   ),
 )
 
-pub goes_kept : (env : Env) (xs ys after : List Item) (d e g : Drafted) (t : Term) (dot : Token) (f : Identifier) → Goes env d xs e ys (λ is. is) → KeepsField env dot.place f e g t → after ≡ items.Tree (with_tree dot t) ∷ ys
+pub goes_kept : (env : Env) (xs ys after : List Item) (d e g : Drafted) (t : Term) (known : Bor Declarations) (dot : Token) (f : Identifier) → declared_in env.scope ≡ declarations_view known.now → Goes env d xs e ys (λ is. is) → KeepsField env dot.place f e g t → after ≡ items.Tree (with_tree dot t known) ∷ ys
     → Goes env d xs g after (behind_node (node.WithMember dot f))
-goes_kept env xs ys after d e g t dot f s k eq =
+goes_kept env xs ys after d e g t known dot f told s k eq =
     let A : List Item → Type 0 = λ (l : List Item). Goes env d xs g l (behind_node (node.WithMember dot f)) in
     subst A (sym eq) (record {
       grown = grown_twice d e g s.grown k.grown;
       named = (k.named, all_named e.tables g.tables k.grown.tables ys s.named);
-      stands = λ is base h. kept_stands env xs ys d e g t dot f s k is base h;
+      stands = λ is base h. kept_stands env xs ys d e g t known dot f told s k is base h;
     })
 
 -- ---- behind a term
@@ -564,6 +565,7 @@ tree_stands env x dot f d e y m k base below h =
       name_is = refl;
       qualifier_is = ap (λ (o : Option Qualifier). enum_behind env.scope o f) none;
       leaf = tt;
+      declared_is = h.declared_is;
     })
 
 pub makes_member : (env : Env) (x : Tree) (dot : Token) (f : Identifier) (d e : Drafted) (y : Term) → MakesBehind env x.place dot.place x.term f d e y → IsQualifier env.scope x None → MakesMember env x dot f d e (made_tree x None y)

@@ -317,6 +317,7 @@ pub fn step_with_member<'a>(
             name: None,
             dotted: None,
             term,
+            declared: env.declared,
         }),
     )?;
     Ok(())

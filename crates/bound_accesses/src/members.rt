@@ -155,6 +155,7 @@ fn behind_qualifier<'a>(
         name: None,
         dotted: dotted(tree.name, member),
         term,
+        declared: tree.declared,
     })
 }
 
@@ -467,6 +468,7 @@ fn behind_tree<'a>(
         name: None,
         dotted: None,
         term,
+        declared: tree.declared,
     })
 }
 

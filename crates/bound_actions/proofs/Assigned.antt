@@ -8,6 +8,7 @@ use Rattle.vba_expression.specs.Tree.{Expr, index}
 use Rattle.vba_expression.specs.Nodes as nodes
 use Rattle.vba_expression.specs.Nodes.{tree_in}
 use Rattle.vba_expression.specs.declared.node.ExpressionNode.{ExpressionNode}
+use Rattle.vba_values.specs.Types as type
 use Rattle.bound_project.specs.declared.declarations.Parameter.{Parameter}
 use Rattle.bound_project.specs.declared.statement.ActionKind.{ActionKind}
 use Rattle.bound_project.specs.declared.statement.ActionKind.TheVariants as action
@@ -30,8 +31,8 @@ use Rattle.declared_names.specs.binder.specs.Storage.{procedure_number}
 use Rattle.declared_names.specs.binder.specs.Types.{is_object}
 use Rattle.bound_terms.specs.bound_accesses.specs.bound_names.specs.bound_members.specs.bound_calls.specs.bound_forms.specs.Terms.{Env, Given, routine_term, takes}
 use Rattle.bound_terms.specs.bound_accesses.specs.bound_names.specs.bound_members.specs.bound_calls.specs.bound_forms.specs.Terms as plain
-use Rattle.bound_terms.specs.bound_accesses.specs.bound_names.specs.bound_members.specs.bound_calls.specs.bound_forms.specs.ExpressionsBound.{argument_of, behind_base, callee, givens, indexed, item_of, term_of, place_told}
-use Rattle.bound_terms.specs.bound_accesses.specs.bound_names.specs.bound_members.specs.bound_calls.specs.bound_forms.specs.StatementsBound.{assigned, broken_target, given_behind, is_no_target, is_param_array, is_indexed_late, is_sub, property_given, set_by, takes_value, target_before, untaken as not_taken}
+use Rattle.bound_terms.specs.bound_accesses.specs.bound_names.specs.bound_members.specs.bound_calls.specs.bound_forms.specs.ExpressionsBound.{argument_of, behind_base, callee, givens, item_of, term_of, place_told}
+use Rattle.bound_terms.specs.bound_accesses.specs.bound_names.specs.bound_members.specs.bound_calls.specs.bound_forms.specs.StatementsBound.{assigned, broken_target, class_of_term, given_behind, index_assigned, is_no_target, is_param_array, is_indexed_late, is_sub, property_given, set_by, takes_value, target_before, untaken as not_taken}
 use Rattle.declared_names.specs.View.{space_view, written_view}
 use Rattle.bound_terms.specs.bound_accesses.specs.bound_names.specs.bound_members.specs.bound_calls.specs.declared.term.Property.{Property}
 use Rattle.bound_terms.specs.bound_accesses.specs.bound_names.specs.bound_members.specs.bound_calls.specs.declared.term.Receiver.{Receiver}
@@ -60,7 +61,9 @@ use Rattle.statement_terms.proofs.Assigned.{a_target, all_is, bare_assigned, bar
 use Rattle.statement_terms.proofs.Called.{index_is}
 use Rattle.statement_terms.proofs.NodeTrees.{continued}
 use Rattle.bound_actions.specs.Assigning.{AssignsItemOf, ItemGiven, GivesProperty, RefusesNone, part_for}
+use Rattle.bound_actions.specs.ClassItems.{term_class}
 use Rattle.bound_actions.specs.LateItems.{LeadsFrom}
+use Rattle.bound_actions.proofs.ClassTerms.{class_stands, index_plain, kept_class, kept_led}
 use Rattle.bound_actions.proofs.Refusing.{module_alone}
 
 -- ---- properties that are assigned to
@@ -305,8 +308,8 @@ given_late has t x v l = λ env place z ps below known kept h.
 
 pub assigns_indexed : (has : Bool) (env : Env) (may : Option Bool) → has_class env.scope.spaces ≡ has → (split : Split) (all : List ExpressionNode) (x : Tree) (y : Term) (d f g e : Drafted) (kind : ActionKind) (given : Bool) → SplitAt split all
     → AddsOne split.arguments.now → LeavesAlone env split.target.now d f x → CalleeIs env x f g y → is_sub (callee env (tree_in split.target.now) (term_of env (tree_in split.target.now))) ≡ false → NoWriter part.Let env.scope y
-    → KeepsItem has g.tables y → AssignsItemOf has env x y split.closed.now g e kind given → AssignsTo env may (tree_in all) d e kind given
-assigns_indexed has env may known split all x y d f g e kind given at one l c no_sub none item i =
+    → KeepsItem has g.tables y → term_class y ≡ None → AssignsItemOf has env x y split.closed.now g e kind given → AssignsTo env may (tree_in all) d e kind given
+assigns_indexed has env may known split all x y d f g e kind given at one l c no_sub none item class i =
     let base = tree_in split.target.now in
     let z = callee env base (term_of env base) in
     let p = place_told base in
@@ -325,6 +328,7 @@ assigns_indexed has env may known split all x y d f g e kind given at one l c no
     let gs = givens env args in
     let takes : takes_value env t ≡ false = untaken has env known g.tables p y z f.pieces d.pieces item none there in
     let late : is_indexed_late env p t ≡ given = i.item env p z f.pieces d.pieces known (item.kept env known p z f.pieces d.pieces there) there in
+    let apart : class_of_term t ≡ None = kept_class (lacks_item y) env p z (item.kept env known p z f.pieces d.pieces there) (class_stands env g.tables y z f.pieces d.pieces there ∙ class) in
     subst P (sym at_index.1) (record {
       grown = grown_twice d h e leaves.grown a.grown;
       named = a.named;
@@ -332,10 +336,11 @@ assigns_indexed has env may known split all x y d f g e kind given at one l c no
       stands = λ value goes alone.
           let A : List Piece → Type 0 = λ (ps : List Piece). TermStands env h.tables more.term (term_of env tree) h.pieces ps in
           let B : Place → Type 0 = λ (q : Place). ActionIs kind (assigned env q value [] (term_of env tree)) e.tables e.pieces in
-          let m = subst B leaves.stands.place_is (a.stands env known (term_of env tree) value goes (subst A alone leaves.stands.term_is)) in
+          let m = subst B leaves.stands.place_is (a.stands env known leaves.stands.declared_is (term_of env tree) value goes (subst A alone leaves.stands.term_is)) in
           record {
             made = m.made;
-            is = a_target env tree value (ap (λ (b : Bool). b || is_param_array env tree) no_sub) ∙ ap (λ (b : Bool). if b then assigned env p value gs t else assigned env p value [] (indexed env p t gs)) takes ∙ m.is;
+            is = a_target env tree value (ap (λ (b : Bool). b || is_param_array env tree) no_sub) ∙ ap (λ (b : Bool). if b then assigned env p value gs t else index_assigned env p t gs value) takes
+                ∙ index_plain env p t gs value apart ∙ m.is;
             fits = m.fits;
           };
     })
@@ -348,9 +353,9 @@ item_action t make place value count es ps counted top =
     ∙ ap (λ o. element_found make o) (exprs_are es (a_place place ∷ an_expr value ∷ []))
 
 pub assigns_led : (has : Bool) (env : Env) (may : Option Bool) → has_class env.scope.spaces ≡ has → (split : Split) (all : List ExpressionNode) (x : Tree) (y : Term) (v : Ending) (d f g e : Drafted) (numbers : ℕ) → SplitAt split all
-    → LeavesAlone env split.target.now d f x → CalleeIs env x f g y → is_sub (callee env (tree_in split.target.now) (term_of env (tree_in split.target.now))) ≡ false → NoWriter part.Let env.scope y → KeepsItem has g.tables y
+    → LeavesAlone env split.target.now d f x → CalleeIs env x f g y → is_sub (callee env (tree_in split.target.now) (term_of env (tree_in split.target.now))) ≡ false → NoWriter part.Let env.scope y → KeepsItem has g.tables y → term_class y ≡ None
     → IsLateValue has g.tables y v → LeadsFrom env v x.place split.arguments.now g e numbers → AssignsTo env may (tree_in all) d e (action.AssignElement numbers) true
-assigns_led has env may known split all x y v d f g e numbers at l c no_sub none item late led =
+assigns_led has env may known split all x y v d f g e numbers at l c no_sub none item class late led =
     let base = tree_in split.target.now in
     let z = callee env base (term_of env base) in
     let p = place_told base in
@@ -358,6 +363,7 @@ assigns_led has env may known split all x y v d f g e numbers at l c no_sub none
     let there = c.stands base f.pieces d.pieces l.leaves.stands in
     let takes : takes_value env t ≡ false = untaken has env known g.tables p y z f.pieces d.pieces item none there in
     let is_late : is_indexed_late env p t ≡ true = given_late has g.tables y v late env p z f.pieces d.pieces known (item.kept env known p z f.pieces d.pieces there) there in
+    let apart : class_of_term t ≡ None = kept_class (lacks_item y) env p z (item.kept env known p z f.pieces d.pieces there) (class_stands env g.tables y z f.pieces d.pieces there ∙ class) in
     let P : Expr → Type 0 = λ (q : Expr). AssignsTo env may q d e (action.AssignElement numbers) true in
     let Y : Term → Type 0 = λ (q : Term). TermStands env g.tables q z g.pieces d.pieces in
     let F : List Piece → Type 0 = λ (ps : List Piece). TermStands env g.tables y z ps d.pieces in
@@ -370,10 +376,13 @@ assigns_led has env may known split all x y v d f g e numbers at l c no_sub none
       takes = ap (λ (b : Bool). b || is_indexed_late env p t) takes ∙ is_late;
       stands = λ value goes alone.
           let made = assign_element (value_place m.value) (exprs_of m.numbers) value in
+          let C : Term → Type 0 = λ (q : Term). term_class q ≡ None in
+          let q = subst Y late.is (subst F (sym c.pieces) there) in
+          let other = kept_led (lacks_item y) env p z q.made (declared_view v.of) (item.kept env known p z f.pieces d.pieces there) q.is (subst C late.is class) gs m.value (exprs_of m.numbers) type.variant m.indexed_is in
           record {
             made = made;
-            is = a_target env tree value (ap (λ (b : Bool). b || is_param_array env tree) no_sub) ∙ ap (λ (b : Bool). if b then assigned env p value gs t else assigned env p value [] (indexed env p t gs)) takes
-                ∙ ap (λ (q : plain.Term). assigned env p value [] q) m.indexed_is;
+            is = a_target env tree value (ap (λ (b : Bool). b || is_param_array env tree) no_sub) ∙ ap (λ (b : Bool). if b then assigned env p value gs t else index_assigned env p t gs value) takes
+                ∙ index_plain env p t gs value apart ∙ ap (λ (q : plain.Term). assigned env p value [] q) m.indexed_is ∙ ap (λ (b : Bool). if b then None else Some made) other;
             fits = item_action e.tables (λ q es w. assign_element q es w) (value_place m.value) value numbers m.numbers e.pieces m.count_is (m.on_top ∙ ap (λ (ps : List Piece). above (map an_expr m.numbers) (a_place (value_place m.value) ∷ ps)) alone);
           };
     }))

@@ -20,7 +20,7 @@ use Rattle.declared_names.specs.binder.specs.Options.{from_two, or_else}
 use Rattle.bound_terms.specs.bound_accesses.specs.bound_names.specs.bound_members.specs.bound_calls.specs.bound_forms.specs.Terms.{Env, Given, a_host_member, given_by_name}
 use Rattle.bound_terms.specs.bound_accesses.specs.bound_names.specs.bound_members.specs.bound_calls.specs.bound_forms.specs.Terms as plain
 use Rattle.bound_terms.specs.bound_accesses.specs.bound_names.specs.bound_members.specs.bound_calls.specs.bound_forms.specs.ExpressionsBound.{callee, givens, indexed, item_of, late_arguments, place_told, term_of}
-use Rattle.bound_terms.specs.bound_accesses.specs.bound_names.specs.bound_members.specs.bound_calls.specs.bound_forms.specs.StatementsBound.{set_by, set_to, target_before}
+use Rattle.bound_terms.specs.bound_accesses.specs.bound_names.specs.bound_members.specs.bound_calls.specs.bound_forms.specs.StatementsBound.{class_of_term, set_by, set_to, target_before}
 use Rattle.bound_terms.specs.bound_accesses.specs.bound_names.specs.bound_members.specs.bound_calls.specs.declared.term.HostMember.{HostMember}
 use Rattle.bound_terms.specs.bound_accesses.specs.bound_names.specs.bound_members.specs.bound_calls.specs.declared.term.Item.TheVariants as item
 use Rattle.bound_terms.specs.bound_accesses.specs.bound_names.specs.bound_members.specs.bound_calls.specs.declared.term.MemberCall.{MemberCall}
@@ -36,7 +36,7 @@ use Rattle.statement_terms.specs.Late.{SetsCall, SetsLate}
 use Rattle.statement_terms.specs.Members.{ReadsOnto}
 use Rattle.statement_terms.specs.Setting.{SetsTerm, set_there}
 use Rattle.statement_terms.proofs.NodeTrees.{behind_push}
-use Rattle.statement_terms.proofs.SetTargets.{member_set, set_there_is, set_with}
+use Rattle.statement_terms.proofs.SetTargets.{member_set, set_there_is, set_with, split_set}
 use Rattle.statement_terms.proofs.WrittenMembers.{no_member_sub}
 use Rattle.bound_actions.specs.LateSets.{SetsGiven, SetsIndexed, SetsItem, SetsMember}
 use Rattle.bound_actions.specs.Refused.{RefusesSet}
@@ -76,7 +76,7 @@ set_before : (word : Place) (env : Env) (base : Expr) (left right : Token) (args
 set_before word env base left right args value object m is =
     let p = place_told base in
     let gs = givens env args in
-    set_there_is word env (index base left args right) value (no_member_sub env p (callee env base (term_of env base)) object m is)
+    set_there_is word env (index base left args right) value (no_member_sub env p (callee env base (term_of env base)) object m is) ∙ split_set word env base left right args value (ap class_of_term is)
     ∙ ap (λ (t : plain.Term). or_else (set_by env p gs t value) (set_to word p (set_with env p gs t) value)) is
 
 -- one that the run finds, by the nodes of its arguments

@@ -8,7 +8,8 @@ use Rattle.bound_project.specs.Drafts.{Drafted}
 use Rattle.bound_project.specs.Expressions as bound
 use Rattle.bound_project.specs.Pieces.{Piece, an_expr}
 use Rattle.bound_project.specs.Statements.{Action}
-use Rattle.bound_project.specs.View.{declared_view}
+use Rattle.bound_project.specs.Project as project
+use Rattle.bound_project.specs.View.{declarations_view, declared_view}
 use Rattle.declared_names.specs.binder.specs.Classes.{has_class}
 use Rattle.declared_names.specs.binder.specs.Declarations.{Written}
 use Rattle.declared_names.specs.binder.specs.Scopes.{Space}
@@ -17,6 +18,7 @@ use Rattle.declared_names.specs.binder.specs.Storage.{gives_value}
 use Rattle.declared_names.specs.View.{space_view, written_view}
 use Rattle.bound_terms.specs.bound_accesses.specs.bound_names.specs.bound_members.specs.bound_calls.specs.bound_forms.specs.Terms.{Env, a_value, routine_term}
 use Rattle.bound_terms.specs.bound_accesses.specs.bound_names.specs.bound_members.specs.bound_calls.specs.bound_forms.specs.Terms as plain
+use Rattle.bound_terms.specs.bound_accesses.specs.bound_names.specs.bound_members.specs.bound_calls.specs.bound_forms.specs.ClassDefaults.{declared_in}
 use Rattle.bound_terms.specs.bound_accesses.specs.bound_names.specs.bound_members.specs.bound_calls.specs.bound_forms.specs.ExpressionsBound.{indexed, term_of}
 use Rattle.bound_terms.specs.bound_accesses.specs.bound_names.specs.bound_members.specs.bound_calls.specs.bound_forms.specs.StatementsBound.{assigned, is_no_target, let_to, takes_value, value_written}
 use Rattle.bound_terms.specs.bound_accesses.specs.bound_names.specs.bound_members.specs.bound_calls.specs.declared.term.Ending.{Ending}
@@ -33,7 +35,7 @@ use Rattle.bound_terms.specs.bound_accesses.specs.bound_names.specs.declared.pro
 use Rattle.bound_terms.specs.bound_accesses.specs.bound_names.specs.declared.properties.Writer.{Writer}
 use Rattle.bound_terms.specs.bound_accesses.specs.bound_names.specs.Callee.{NoWriter, Unwritten, WriterOf}
 use Rattle.statement_terms.specs.Called.{ActionIs, AssignsTo, IsBare, MayBe}
-use Rattle.statement_terms.specs.Members.{AssignsTerm, AssignsTree}
+use Rattle.statement_terms.specs.Members.{AssignsIn, AssignsTree}
 use Rattle.statement_terms.proofs.Assigned.{bare_assigned, bare_given, property_of}
 use Rattle.bound_actions.specs.Assigning.{AssignsOther, TakesLet, is_member}
 use Rattle.bound_actions.proofs.Assigned.{has_writer, property_stands, routine_takes}
@@ -91,9 +93,9 @@ no_let : (env : Env) (r : Routine) (y : plain.Term) → NoWriter part.Let env.sc
 no_let env r y n s = ap (λ (q : Space). writer env.scope q s.written) s.space_is ∙ ap (λ (q : Written). writer env.scope (space_view r.space.now) q) s.written_is ∙ n
 
 routine_assigned : (has : Bool) (env : Env) (may : Option Bool) (r : Routine) (place : Place) (y : plain.Term) (value : bound.Expr) (ending : Ending) (kind : ActionKind) (d m e : Drafted) → has_class env.scope.spaces ≡ has → MayBe env may value
-    → NoWriter part.Let env.scope (term.Routine r) → gives_value (written_view r.written).kind ≡ true → CallsAt r place d m ending → AssignsTerm has may place (term.Value ending) m e kind false → RoutineStands env r y d.pieces (an_expr value ∷ [])
+    → NoWriter part.Let env.scope (term.Routine r) → gives_value (written_view r.written).kind ≡ true → CallsAt r place d m ending → (all : project.Declarations) → declared_in env.scope ≡ all → AssignsIn all has may place (term.Value ending) m e kind false → RoutineStands env r y d.pieces (an_expr value ∷ [])
     → ActionIs kind (assigned env place value [] y) e.tables e.pieces
-routine_assigned has env may r place y value ending kind d m e known goes n gives c a s =
+routine_assigned has env may r place y value ending kind d m e known goes n gives c all alike a s =
     let q = s.routine in
     let z = routine_term q.base q.space q.number q.written in
     let called = (c.stands env y (an_expr value ∷ []) s).called in
@@ -102,7 +104,7 @@ routine_assigned has env may r place y value ending kind d m e known goes n give
     let same : assigned env place value [] y ≡ assigned env place value [] (indexed env place y []) =
     ap (λ (t : plain.Term). assigned env place value [] t) q.is ∙ called_assigned env place value q.base q.space q.number q.written called.made (declared_view ending.of) (no_let env r y n q) gives_here made
     ∙ ap (λ (t : plain.Term). assigned env place value [] t) (sym called.is) in
-    let done = a.stands env known (indexed env place y []) value goes called in
+    let done = a.stands env known alike (indexed env place y []) value goes called in
     record { made = done.made; is = same ∙ done.is; fits = done.fits }
 
 -- a procedure is no member of the host
@@ -111,7 +113,7 @@ routine_member None space number w = refl
 routine_member (Some b) space number w = refl
 
 pub assigns_routine : (has : Bool) (may : Option Bool) (x : Tree) (r : Routine) (ending : Ending) (kind : ActionKind) (d m e : Drafted) → x.term ≡ term.Routine r → gives_value (written_view r.written).kind ≡ true → CallsAt r x.place d m ending
-    → AssignsTerm has may x.place (term.Value ending) m e kind false → AssignsOther has may x d e kind false
+    → AssignsIn (declarations_view x.declared.now) has may x.place (term.Value ending) m e kind false → AssignsOther has may x d e kind false
 assigns_routine has may x r ending kind d m e is gives c a = record {
   grown = grown_twice d m e c.grown a.grown;
   named = a.named;
@@ -125,7 +127,7 @@ assigns_routine has may x r ending kind d m e is gives c a = record {
       let T : Term → Type 0 = λ (q : Term). TermStands env d.tables q (term_of env tree) d.pieces below in
       let N : Term → Type 0 = λ (q : Term). NoWriter part.Let env.scope q in
       let A : Place → Type 0 = λ (p : Place). ActionIs kind (assigned env p value [] (term_of env tree)) e.tables e.pieces in
-      let done = subst A h.place_is (routine_assigned has env may r x.place (term_of env tree) value ending kind d m e known goes (subst N is n) gives c a (subst T is h.term_is)) in
+      let done = subst A h.place_is (routine_assigned has env may r x.place (term_of env tree) value ending kind d m e known goes (subst N is n) gives c (declarations_view x.declared.now) h.declared_is a (subst T is h.term_is)) in
       record { made = done.made; is = bare_assigned env tree value bare target ∙ done.is; fits = done.fits };
 }
 

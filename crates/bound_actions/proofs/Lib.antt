@@ -10,4 +10,6 @@ pub mod Takings
 pub mod Refusing
 pub mod LateSets
 pub mod LateItems
+pub mod ClassItems
+pub mod ClassTerms
 pub mod Raised

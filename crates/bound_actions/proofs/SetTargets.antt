@@ -7,6 +7,7 @@ use Rattle.vba_expression.specs.Tree.{Expr, index}
 use Rattle.vba_expression.specs.Nodes as nodes
 use Rattle.vba_expression.specs.Nodes.{tree_in}
 use Rattle.vba_expression.specs.declared.node.ExpressionNode.{ExpressionNode}
+use Rattle.vba_values.specs.Types as type
 use Rattle.bound_project.specs.declared.statement.ActionKind.{ActionKind}
 use Rattle.bound_project.specs.declared.statement.ActionKind.TheVariants as action
 use Rattle.bound_project.specs.Bodies.{action_of}
@@ -14,6 +15,7 @@ use Rattle.bound_project.specs.Drafts.{Drafted}
 use Rattle.bound_project.specs.Expressions.{no_exprs, value_place}
 use Rattle.bound_project.specs.Expressions as bound
 use Rattle.bound_project.specs.Lists.{above, exprs_of}
+use Rattle.bound_project.specs.View.{declared_view}
 use Rattle.bound_project.specs.Pieces.{Piece, Tables, a_place, an_expr}
 use Rattle.bound_project.specs.Statements.{Action, set_element}
 use Rattle.declared_names.specs.binder.specs.Declarations.{Written}
@@ -24,7 +26,7 @@ use Rattle.declared_names.specs.View.{space_view, written_view}
 use Rattle.bound_terms.specs.bound_accesses.specs.bound_names.specs.bound_members.specs.bound_calls.specs.bound_forms.specs.Terms.{Env, Given, a_method, a_routine, no_term, routine_term}
 use Rattle.bound_terms.specs.bound_accesses.specs.bound_names.specs.bound_members.specs.bound_calls.specs.bound_forms.specs.Terms as plain
 use Rattle.bound_terms.specs.bound_accesses.specs.bound_names.specs.bound_members.specs.bound_calls.specs.bound_forms.specs.ExpressionsBound.{callee, givens, indexed, item_of, term_of, place_told}
-use Rattle.bound_terms.specs.bound_accesses.specs.bound_names.specs.bound_members.specs.bound_calls.specs.bound_forms.specs.StatementsBound.{broken_target, given_behind, is_sub, object_set, set_by, set_target, set_to, target_before}
+use Rattle.bound_terms.specs.bound_accesses.specs.bound_names.specs.bound_members.specs.bound_calls.specs.bound_forms.specs.StatementsBound.{broken_target, class_of_term, given_behind, is_sub, object_set, set_by, set_target, set_to, target_before}
 use Rattle.bound_terms.specs.bound_accesses.specs.bound_names.specs.bound_members.specs.bound_calls.specs.declared.term.HostMember.{HostMember}
 use Rattle.bound_terms.specs.bound_accesses.specs.bound_names.specs.bound_members.specs.bound_calls.specs.declared.term.Property.{Property}
 use Rattle.bound_terms.specs.bound_accesses.specs.bound_names.specs.bound_members.specs.bound_calls.specs.declared.term.Routine.{Routine}
@@ -48,9 +50,11 @@ use Rattle.declared_names.specs.binder.specs.Classes.{has_class}
 use Rattle.statement_terms.proofs.Assigned.{all_is, index_at, item_itself, property_of}
 use Rattle.statement_terms.proofs.Called.{index_is}
 use Rattle.statement_terms.proofs.NodeTrees.{continued}
-use Rattle.statement_terms.proofs.SetTargets.{bare_callee, bare_set, bare_target, is_apart, other_set, set_bare, set_other, set_there_is, set_with, sets_bare, split_other}
+use Rattle.statement_terms.proofs.SetTargets.{bare_callee, bare_set, bare_target, is_apart, other_set, set_bare, set_other, set_there_is, set_with, sets_bare, split_other, split_set}
 use Rattle.bound_actions.specs.NoTargets.{IsProperty, IsSub, RefusesTarget, SetsRoutine, is_property_term}
+use Rattle.bound_actions.specs.ClassItems.{term_class}
 use Rattle.bound_actions.specs.LateItems.{LeadsFrom}
+use Rattle.bound_actions.proofs.ClassTerms.{class_stands, kept_class, kept_led, routine_class}
 use Rattle.bound_actions.specs.LateSets.{SetsItem, SetsMember}
 use Rattle.bound_actions.proofs.Assigned.{item_action, property_stands, set_of}
 use Rattle.bound_actions.proofs.NoTargets.{property_by, sub_pushes}
@@ -174,7 +178,8 @@ sets_property_split word env split all x y w d f g e kind at l c sub is h =
           let others = set_to word p (set_target env tree) value in
           record {
             made = done.made;
-            is = set_there_is word env tree value none ∙ ap (λ (q : plain.Term). or_else (set_by env p gs q value) others) same ∙ ap (λ (o : Option Action). or_else o others) done.is;
+            is = set_there_is word env tree value none ∙ split_set word env base at.left at.right args value (ap class_of_term same ∙ ap class_of_term s.is ∙ routine_class s.base (space_view w.property.space.now) s.number (written_view w.property.written))
+                ∙ ap (λ (q : plain.Term). or_else (set_by env p gs q value) others) same ∙ ap (λ (o : Option Action). or_else o others) done.is;
             fits = done.fits;
           };
     })
@@ -300,9 +305,9 @@ no_member has env known t place x z ps below k n h = kept_apart (lacks_item x) e
 
 -- what arguments lead to in a value, as the run says
 pub sets_led : (word : Place) (has : Bool) (env : Env) → has_class env.scope.spaces ≡ has → (split : Split) (all : List ExpressionNode) (x : Tree) (y : Term) (v : Ending) (d f g e : Drafted) (numbers : ℕ) → SplitAt split all
-    → LeavesAlone env split.target.now d f x → CalleeIs env x f g y → IsSub y false → NoWriter part.Set env.scope y → IsProperty y false → KeepsItem has g.tables y → IsLateValue has g.tables y v
+    → LeavesAlone env split.target.now d f x → CalleeIs env x f g y → IsSub y false → NoWriter part.Set env.scope y → IsProperty y false → KeepsItem has g.tables y → term_class y ≡ None → IsLateValue has g.tables y v
     → LeadsFrom env v x.place split.arguments.now g e numbers → SetsTo word env (tree_in all) d e (action.SetElement numbers)
-sets_led word has env known split all x y v d f g e numbers at l c sub unwritten property item late led =
+sets_led word has env known split all x y v d f g e numbers at l c sub unwritten property item class late led =
     let base = tree_in split.target.now in
     let z = callee env base (term_of env base) in
     let p = place_told base in
@@ -316,15 +321,20 @@ sets_led word has env known split all x y v d f g e numbers at l c sub unwritten
     let m = led.stands base at.left at.right d.pieces l.leaves.stands.place_is (subst Y late.is (subst F (sym c.pieces) there)) in
     let gs = givens env m.args in
     let kept : is_apart t ≡ false = no_member has env known g.tables p y z f.pieces d.pieces item other there in
+    let apart : class_of_term t ≡ None = kept_class (lacks_item y) env p z (item.kept env known p z f.pieces d.pieces there) (class_stands env g.tables y z f.pieces d.pieces there ∙ class) in
     let same : set_with env p gs t ≡ indexed env p t gs = other_set env p gs t kept in
     subst P (sym (all_is split all at l.alone)) (subst P (sym m.whole_is) (record {
       grown = grown_twice d f e l.leaves.grown (grown_twice f g e c.grown led.grown);
       named = tt;
       stands = λ value alone.
           let no = unset_item has env known g.tables p gs value y z f.pieces d.pieces item unwritten there in
+          let C : Term → Type 0 = λ (q : Term). term_class q ≡ None in
+          let q = subst Y late.is (subst F (sym c.pieces) there) in
+          let other_led = kept_led (lacks_item y) env p z q.made (declared_view v.of) (item.kept env known p z f.pieces d.pieces there) q.is (subst C late.is class) gs m.value (exprs_of m.numbers) type.variant m.indexed_is in
           record {
             made = set_element (value_place m.value) (exprs_of m.numbers) value;
-            is = split_other word env base at.left at.right m.args value none no ∙ ap (λ (q : plain.Term). set_to word p q value) (same ∙ m.indexed_is);
+            is = split_other word env base at.left at.right m.args value none apart no ∙ ap (λ (q : plain.Term). set_to word p q value) (same ∙ m.indexed_is)
+                ∙ ap (λ (b : Bool). if b then None else Some (set_element (value_place m.value) (exprs_of m.numbers) value)) other_led;
             fits = item_action e.tables (λ q es w. set_element q es w) (value_place m.value) value numbers m.numbers e.pieces m.count_is (m.on_top ∙ ap (λ (ps : List Piece). above (map an_expr m.numbers) (a_place (value_place m.value) ∷ ps)) alone);
           };
     }))
@@ -345,8 +355,8 @@ sets_split_item word env split all x y d f g e kind at l c s =
     })
 
 pub sets_split : (word : Place) (has : Bool) (env : Env) → has_class env.scope.spaces ≡ has → (split : Split) (all : List ExpressionNode) (x more : Tree) (y : Term) (d f g h e : Drafted) (kind : ActionKind) → SplitAt split all → AddsOne split.arguments.now → LeavesAlone env split.target.now d f x
-    → CalleeIs env x f g y → IsSub y false → NoWriter part.Set env.scope y → IsProperty y false → KeepsItem has g.tables y → Continues env x split.closed.now g h more → SetsTerm word more.place more.term h e kind → SetsTo word env (tree_in all) d e kind
-sets_split word has env known split all x more y d f g h e kind at one l c sub unwritten property item r s =
+    → CalleeIs env x f g y → IsSub y false → NoWriter part.Set env.scope y → IsProperty y false → KeepsItem has g.tables y → term_class y ≡ None → Continues env x split.closed.now g h more → SetsTerm word more.place more.term h e kind → SetsTo word env (tree_in all) d e kind
+sets_split word has env known split all x more y d f g h e kind at one l c sub unwritten property item class r s =
     let base = tree_in split.target.now in
     let z = callee env base (term_of env base) in
     let whole = continued env split.target.now split.closed.now all x more d f g h at.is l c.grown c.pieces r in
@@ -361,6 +371,7 @@ sets_split word has env known split all x more y d f g h e kind at one l c sub u
     let none : is_sub z ≡ false = sub env g.tables z f.pieces d.pieces there in
     let other : is_property_term z ≡ false = property env g.tables z f.pieces d.pieces there in
     let kept : is_apart (target_before env base) ≡ false = no_member has env known g.tables p y z f.pieces d.pieces item other there in
+    let apart : class_of_term (target_before env base) ≡ None = kept_class (lacks_item y) env p z (item.kept env known p z f.pieces d.pieces there) (class_stands env g.tables y z f.pieces d.pieces there ∙ class) in
     let same : set_with env p (givens env args) (target_before env base) ≡ term_of env tree = other_set env p (givens env args) (target_before env base) kept in
     subst P (sym at_index.1) (record {
       grown = grown_twice d h e leaves.grown s.grown;
@@ -370,5 +381,5 @@ sets_split word has env known split all x more y d f g h e kind at one l c sub u
           let A : Place → Type 0 = λ (q : Place). ActionIs kind (set_to word q (term_of env tree) value) e.tables e.pieces in
           let m = subst A leaves.stands.place_is (s.stands env (term_of env tree) value (subst T alone leaves.stands.term_is)) in
           let no = unset_item has env known g.tables p (givens env args) value y z f.pieces d.pieces item unwritten there in
-          record { made = m.made; is = split_other word env base at.left at.right args value none no ∙ ap (λ (t : plain.Term). set_to word p t value) same ∙ m.is; fits = m.fits };
+          record { made = m.made; is = split_other word env base at.left at.right args value none apart no ∙ ap (λ (t : plain.Term). set_to word p t value) same ∙ m.is; fits = m.fits };
     })

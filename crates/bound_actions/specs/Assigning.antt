@@ -22,7 +22,7 @@ use Rattle.bound_terms.specs.bound_accesses.specs.bound_names.specs.bound_member
 use Rattle.bound_terms.specs.bound_accesses.specs.bound_names.specs.bound_members.specs.bound_calls.specs.Standing.{Grown, TermStands, TreeStands}
 use Rattle.bound_terms.specs.bound_accesses.specs.bound_names.specs.Callee.{NoWriter}
 use Rattle.bound_project.specs.declared.declarations.Parameter.{Parameter}
-use Rattle.bound_project.specs.View.{declared_view, parameter_view}
+use Rattle.bound_project.specs.View.{declarations_view, declared_view, parameter_view}
 use Rattle.declared_names.specs.binder.specs.Signatures.{parameters_in}
 use Rattle.declared_names.specs.binder.specs.Storage.{procedure_number}
 use Rattle.declared_names.specs.binder.specs.Types.{is_object}
@@ -97,5 +97,5 @@ pub record AssignsItemOf (has : Bool) (env : Env) (x : Tree) (y : Term) (ns : Li
   pub more : Tree
   pub after : Drafted
   pub continues : Continues env x ns d after more
-  pub assigns : (may : Option Bool) → AssignsIndexed has may more.place more.term after e kind
+  pub assigns : (may : Option Bool) → AssignsIndexed (declarations_view more.declared.now) has may more.place more.term after e kind
   pub item : ItemGiven has d.tables y given

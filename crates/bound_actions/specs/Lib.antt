@@ -4,5 +4,6 @@ pub mod NoTargets
 pub mod Refused
 pub mod Assigning
 pub mod LateItems
+pub mod ClassItems
 pub mod LateSets
 pub mod Raised

@@ -13,6 +13,7 @@ ghost use Rattle.bound_terms.specs.bound_accesses.specs.bound_names.specs.Callee
 ghost use Rattle.bound_terms.specs.bound_accesses.specs.bound_names.specs.View.{EnvStands, env_view};
 ghost use Rattle.declared_names.specs.View.{scope_view};
 
+use crate::class_items::{give_led, term_class};
 use crate::late_items::lead_from;
 use crate::member_targets::assign_item;
 use crate::no_targets::{has_let, is_no_target, is_sub, refuse_target};
@@ -213,7 +214,7 @@ fn assign_other<'a>(
                 return Err(OrMemory::Fault(NotYet));
             }
             let ending = called_ending(alloc, draft, routine, tree.place)?;
-            let kind = assign_value(draft, ending, tree.place, has_class)?;
+            let kind = assign_value(draft, ending, tree.place, has_class, tree.declared)?;
             Ok(as_operand(kind))
         }
         _ => assign_tree(alloc, draft, tree, has_class, may_be),
@@ -279,7 +280,7 @@ fn assign_item_of<'a>(
         return Err(OrMemory::Fault(NotYet));
     };
     let more = continue_tree(alloc, draft, env, tree, split.closed)?;
-    let kind = assign_indexed(draft, more.term, more.place, env.has_class)?;
+    let kind = assign_indexed(draft, more.term, more.place, env.has_class, more.declared)?;
     Ok(Assignment { kind, is_given })
 }
 
@@ -323,6 +324,10 @@ fn assign_split<'a>(
     if takes_item(env.has_class, draft, term) {
         let kind = assign_item(alloc, draft, env, tree.place, term, split.arguments, may_be)?;
         return Ok(as_given(kind));
+    }
+    if let Some(class) = term_class(term) {
+        let led = give_led(alloc, draft, env, tree, term, class, false, split.arguments)?;
+        return Ok(as_given(led));
     }
     if let Some(ending) = late_value(env.has_class, draft, term) {
         let numbers = lead_from(alloc, draft, env, ending, tree.place, split.arguments)?;

@@ -22,7 +22,7 @@ use vba_base::{OrMemory, Place};
 use vba_expression::ExpressionNode;
 
 /// Reads arguments behind what they index, which was pushed.
-fn read_indexed<'a>(
+pub fn read_indexed<'a>(
     alloc: Global,
     draft: &mut Draft,
     env: Env<'a>,

@@ -4,6 +4,7 @@
 mod actions;
 mod assigned_values;
 mod assigning;
+mod class_items;
 mod events;
 mod indexed_calls;
 mod late_items;

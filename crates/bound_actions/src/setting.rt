@@ -17,6 +17,7 @@ ghost use Rattle.bound_terms.specs.bound_accesses.specs.bound_names.specs.bound_
 ghost use Rattle.bound_terms.specs.bound_accesses.specs.bound_names.specs.View.{EnvStands, env_view};
 
 use crate::assigning::{let_bare, let_given};
+use crate::class_items::{give_led, term_class};
 use crate::late_items::lead_from;
 use crate::member_targets::read_member;
 use crate::no_targets::{is_sub, refuse_target};
@@ -221,6 +222,9 @@ fn set_split<'a>(
             term,
             split.arguments,
         );
+    }
+    if let Some(class) = term_class(term) {
+        return give_led(alloc, draft, env, tree, term, class, true, split.arguments);
     }
     if let Some(ending) = late_value(env.has_class, draft, term) {
         let numbers = lead_from(alloc, draft, env, ending, tree.place, split.arguments)?;

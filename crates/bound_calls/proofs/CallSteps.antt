@@ -1,5 +1,5 @@
 -- What the nodes of a call do to the stack.
-use Rattle.std.proofs.Common.{◌≡◌, T, ℕ, ◌+◌, List, [], ◌∷◌, ◌++◌, map, length, Option, Some, None, is_some, refl, sym, ap, subst, ◌∙◌, arith, length-append}
+use Rattle.std.proofs.Common.{◌≡◌, Bor, T, ℕ, ◌+◌, List, [], ◌∷◌, ◌++◌, map, length, Option, Some, None, is_some, refl, sym, ap, subst, ◌∙◌, arith, length-append}
 use Rattle.std.proofs.lemmas.List.{map-append}
 use Rattle.std.specs.Prelude.{unwrap_or}
 use Rattle.vba_base.specs.declared.place.Place.{Place}
@@ -13,7 +13,8 @@ use Rattle.vba_expression.specs.Nodes.{behind_node}
 use Rattle.bound_project.specs.declared.node.NodeKind.TheVariants as kind
 use Rattle.bound_project.specs.declared.node.Node.{Node}
 use Rattle.bound_project.specs.declared.declarations.Parameter.{Parameter}
-use Rattle.bound_project.specs.View.{declared_view, parameter_view}
+use Rattle.bound_project.specs.declared.declarations.Declarations.{Declarations}
+use Rattle.bound_project.specs.View.{declarations_view, declared_view, parameter_view}
 use Rattle.bound_project.specs.Expressions as bound
 use Rattle.bound_project.specs.Lists.{above, args_of}
 use Rattle.bound_project.proofs.Lists.{args_are}
@@ -26,7 +27,8 @@ use Rattle.bound_declarations.specs.constant_values.specs.declared_names.specs.b
 use Rattle.bound_declarations.specs.constant_values.specs.declared_names.specs.binder.specs.Scopes.{Space}
 use Rattle.bound_forms.specs.Terms.{Env, Given, routine_term}
 use Rattle.bound_forms.specs.Terms as plain_terms
-use Rattle.bound_forms.specs.ExpressionsBound.{taken_by_term, argument_of, call_with, callee, indexed, item_of, operand_of, term_of, givens, place_told, term_or, wrong_term, call_node}
+use Rattle.bound_forms.specs.ClassDefaults.{declared_in}
+use Rattle.bound_forms.specs.ExpressionsBound.{along_value, taken_by_term, argument_of, call_with, callee, indexed, item_of, operand_of, term_of, givens, place_told, term_or, wrong_term, call_node}
 use Rattle.bound_calls.specs.declared.term.Ending.{Ending}
 use Rattle.bound_calls.specs.declared.term.Routine.{Routine}
 use Rattle.bound_calls.specs.declared.term.Term.{Term}
@@ -91,15 +93,15 @@ call_taken t (receiver.Pushed of) (Some e) procedure count args ps there below i
     ap (λ o. of_object_found (λ x xs. expr_of n (bound.method x procedure xs)) o) taken ∙ ap (λ st. of_object (λ x xs. expr_of n (bound.method x procedure xs)) args st) on
 
 -- arguments that were pushed, and the others
-call_made : (value : Declared → plain_terms.Term → Place → Option bound.Expr) (number_of : plain_terms.Term → Place → Option bound.Expr) (env : Env) (t : Tables) (r : Routine) (x : Passed) (d e : Drafted) (ending : Ending) (y : plain_terms.Term) (place : Place) (gs : List Given) (xs : List Argument)
+call_made : (value : Declared → plain_terms.Term → Place → Option bound.Expr) (number_of along : plain_terms.Term → Place → Option bound.Expr) (env : Env) (t : Tables) (r : Routine) (x : Passed) (d e : Drafted) (ending : Ending) (y : plain_terms.Term) (place : Place) (gs : List Given) (xs : List Argument)
     (there below : List Piece) → EndsCall r x d e ending → (s : RoutineIs env r y) → ReceiverThere s.base there below → AllTaken value (map parameter_view r.parameters.now) gs xs (map parameter_view x.left.now) → x.count ≡ length xs
-    → d.pieces ≡ above (map an_argument xs) there → ValueStands t ending (call_with value number_of env place gs s.base s.space s.number s.written) e.pieces below
-call_made value number_of env t r x d e ending y place gs xs there below h s on taken counted on_top =
+    → d.pieces ≡ above (map an_argument xs) there → ValueStands t ending (call_with value number_of along env place gs s.base s.space s.number s.written) e.pieces below
+call_made value number_of along env t r x d e ending y place gs xs there below h s on taken counted on_top =
     let args = args_of (xs ++ h.made) in
-    let P : Ending → Type 0 = λ z. ValueStands t z (call_with value number_of env place gs s.base s.space s.number s.written) e.pieces below in
+    let P : Ending → Type 0 = λ z. ValueStands t z (call_with value number_of along env place gs s.base s.space s.number s.written) e.pieces below in
     subst P (sym h.ending_is) (record {
       made = call_node s.base r.procedure args;
-      is = call_is value number_of env place gs s.base s.space s.number s.written s.read r.procedure (declared_view r.of) (map parameter_view r.parameters.now) args xs (map parameter_view x.left.now) s.reads s.procedure_is s.parameters_are s.of_is taken
+      is = call_is value number_of along env place gs s.base s.space s.number s.written s.read r.procedure (declared_view r.of) (map parameter_view r.parameters.now) args xs (map parameter_view x.left.now) s.reads s.procedure_is s.parameters_are s.of_is taken
           (arguments_bound value (map parameter_view r.parameters.now) gs xs (map parameter_view x.left.now) h.made taken h.left);
       ends = call_taken t r.receiver s.base r.procedure (x.count + length h.made) args e.pieces there below s.received on
           (arguments_taken (x.count + length h.made) xs h.made e.pieces d.pieces there (omega (arith, counted)) on_top h.on_top);
@@ -107,7 +109,7 @@ call_made value number_of env t r x d e ending y place gs xs there below h s on 
 
 -- brackets behind a procedure are its arguments
 pub taken_routine : (env : Env) (place : Place) (base : Option bound.Expr) (space : Space) (number : ℕ) (w : Written) (gs : List Given)
-    → taken_by_term env place (routine_term base space number w) gs ≡ call_with (argument_of env) (operand_of env) env place gs base space number w
+    → taken_by_term env place (routine_term base space number w) gs ≡ call_with (argument_of env) (operand_of env) (along_value env) env place gs base space number w
 taken_routine env place None space number w gs = refl
 taken_routine env place (Some b) space number w gs = refl
 
@@ -118,7 +120,7 @@ pub call_stands : (env : Env) (t : Tables) (r : Routine) (x : Passed) (d e : Dra
 call_stands env t r x d e ending y place args there below h s on p =
     let z = routine_term s.base s.space s.number s.written in
     let gs = givens env args in
-    let v = call_made (argument_of env) (operand_of env) env t r x d e ending y place gs p.made there below h s on p.taken p.count_is p.on_top in
+    let v = call_made (argument_of env) (operand_of env) (along_value env) env t r x d e ending y place gs p.made there below h s on p.taken p.count_is p.on_top in
     record {
       made = v.made;
       is = ap (λ w. indexed env place w gs) s.is ∙ ap (λ w. term_or w (wrong_term env place z gs)) (taken_routine env place s.base s.space s.number s.written gs ∙ v.is);
@@ -143,7 +145,7 @@ routine_stands r x d m e ending left count p h env y below s =
       number = u.number;
       written = u.written;
       is = u.is;
-      called = call_made (λ of t place. None) (λ t place. None) env e.tables r x m e ending y u.written.place [] [] m.pieces below h u (p.there u.base below u.received s.pushed) (ap (λ l. map parameter_view l) (sym left)) count refl;
+      called = call_made (λ of t place. None) (λ t place. None) (λ t place. None) env e.tables r x m e ending y u.written.place [] [] m.pieces below h u (p.there u.base below u.received s.pushed) (ap (λ l. map parameter_view l) (sym left)) count refl;
     }
 
 pub calls_routine : (r : Routine) (x : Passed) (d m e : Drafted) (ending : Ending) → x.left.now ≡ r.parameters.now → x.count ≡ 0 → PushesReceiver r.receiver d m → EndsCall r x m e ending → CallsRoutine r d e ending
@@ -312,42 +314,43 @@ routine_item env place z None space number w h = ap (λ y. item_of env place y) 
 routine_item env place z (Some b) space number w h = ap (λ y. item_of env place y) h ∙ sym h
 
 -- what brackets make of an expression
-pub tree_ended : (env : Env) (t : Tables) (y : Term) (place : Place) (b : Expr) (args : Args) (left right : Token) (ps below : List Piece) → place ≡ place_told b
+pub tree_ended : (env : Env) (t : Tables) (y : Term) (place : Place) (known : Bor Declarations) → declared_in env.scope ≡ declarations_view known.now → (b : Expr) (args : Args) (left right : Token) (ps below : List Piece) → place ≡ place_told b
     → TermStands env t y (indexed env (place_told b) (item_of env (place_told b) (callee env b (term_of env b))) (givens env args)) ps below
-    → TreeStands env t (record { place = place; name = None; dotted = None; term = y }) (index b left args right) ps below
-tree_ended env t y place b args left right ps below at h = record {
+    → TreeStands env t (record { place = place; name = None; dotted = None; term = y; declared = known }) (index b left args right) ps below
+tree_ended env t y place known w b args left right ps below at h = record {
   term_is = h;
   place_is = at;
   name_is = refl;
   qualifier_is = refl;
   leaf = tt;
+  declared_is = w;
 }
 
 -- arguments end
-index_stands : (env : Env) (x : Call) (ending : Ending) (left right : Token) (xs : List Item) (d e : Drafted) → AllNamed d.tables xs → EndsCall x.routine x.passed d e ending → (is : List nodes.Item) (base : Base)
+index_stands : (env : Env) (x : Call) (ending : Ending) (known : Bor Declarations) → declared_in env.scope ≡ declarations_view known.now → (left right : Token) (xs : List Item) (d e : Drafted) → AllNamed d.tables xs → EndsCall x.routine x.passed d e ending → (is : List nodes.Item) (base : Base)
     → Stands env d.tables (item.Call x ∷ xs) is d.pieces base
-    → Stands env e.tables (item.Tree (record { place = x.place; name = None; dotted = None; term = term.Value ending }) ∷ xs) (behind_node (node.Index left right) is) e.pieces base
-index_stands env x ending left right xs d e k c [] base h = absurd h
-index_stands env x ending left right xs d e k c (nodes.tree y ∷ is) base h = absurd h
-index_stands env x ending left right xs d e k c (nodes.arguments args ∷ []) base h = absurd h
-index_stands env x ending left right xs d e k c (nodes.arguments args ∷ nodes.arguments more ∷ is) base h = absurd h
-index_stands env x ending left right xs d e k c (nodes.arguments args ∷ nodes.tree y ∷ is) base h =
+    → Stands env e.tables (item.Tree (record { place = x.place; name = None; dotted = None; term = term.Value ending; declared = known }) ∷ xs) (behind_node (node.Index left right) is) e.pieces base
+index_stands env x ending known w left right xs d e k c [] base h = absurd h
+index_stands env x ending known w left right xs d e k c (nodes.tree y ∷ is) base h = absurd h
+index_stands env x ending known w left right xs d e k c (nodes.arguments args ∷ []) base h = absurd h
+index_stands env x ending known w left right xs d e k c (nodes.arguments args ∷ nodes.arguments more ∷ is) base h = absurd h
+index_stands env x ending known w left right xs d e k c (nodes.arguments args ∷ nodes.tree y ∷ is) base h =
     let s = h.1.0 in
     let A : plain_terms.Term → Type 0 = λ z. ValueStands e.tables ending (indexed env (place_told y) z (givens env args)) e.pieces h.0 in (
       h.0,
       (
-        tree_ended env e.tables (term.Value ending) x.place y args left right e.pieces h.0 s.place_is
+        tree_ended env e.tables (term.Value ending) x.place known w y args left right e.pieces h.0 s.place_is
             (subst A (sym (routine_item env (place_told y) (callee env y (term_of env y)) s.routine.base s.routine.space s.routine.number s.routine.written s.routine.is))
             (call_stands env e.tables x.routine x.passed d e ending (callee env y (term_of env y)) (place_told y) args s.between h.0 c s.routine s.there s.passed)),
         stands_grows env d.tables e.tables c.grown.tables xs k is h.0 base h.1.1,
       ),
     )
 
-pub closes_call : (x : Call) (ending : Ending) (d e : Drafted) → EndsCall x.routine x.passed d e ending → Closes (item.Call x) d e (record { place = x.place; name = None; dotted = None; term = term.Value ending })
-closes_call x ending d e c = record {
+pub closes_call : (x : Call) (ending : Ending) (known : Bor Declarations) (d e : Drafted) → EndsCall x.routine x.passed d e ending → Closes (declarations_view known.now) (item.Call x) d e (record { place = x.place; name = None; dotted = None; term = term.Value ending; declared = known })
+closes_call x ending known d e c = record {
   grown = c.grown;
   named = ending_call x.routine x.passed d e ending c;
-  stands = λ env left right xs is base k h. index_stands env x ending left right xs d e k c is base h;
+  stands = λ env w left right xs is base k h. index_stands env x ending known w left right xs d e k c is base h;
 }
 
 -- ---- ends of calls

@@ -128,7 +128,7 @@ term_grows env t u e term.Nothing k y ps below h = h
 
 pub tree_grows : (env : Env) (t u : Tables) → Extends t u → (x : Tree) → TermNamed t x.term → (tree : Expr) (ps below : List Piece) → TreeStands env t x tree ps below → TreeStands env u x tree ps below
 tree_grows env t u e x k tree ps below h =
-    record { term_is = term_grows env t u e x.term k (term_of env tree) ps below h.term_is; place_is = h.place_is; name_is = h.name_is; qualifier_is = h.qualifier_is; leaf = h.leaf }
+    record { term_is = term_grows env t u e x.term k (term_of env tree) ps below h.term_is; place_is = h.place_is; name_is = h.name_is; qualifier_is = h.qualifier_is; leaf = h.leaf; declared_is = h.declared_is }
 
 -- so do the names of its arguments, and the object whose member was looked up
 pub told_same : (t u : Tables) → Extends t u → (names : Option ArgumentNames) → AreNamed t names → names_told u names ≡ names_told t names
@@ -188,6 +188,7 @@ rule_same t u e (refuser.Called of) h (g ∷ gs) = refl
 rule_same t u e (refuser.Member m) h gs = ap (λ (y : terms.HostMember). if member_takes y gs then None else arguments_rule y) (sym (member_same t u e m h))
 rule_same t u e refuser.Bare h [] = refl
 rule_same t u e refuser.Bare h (g ∷ gs) = refl
+rule_same t u e (refuser.Led rule count) h gs = refl
 
 untaken_grows : (env : Env) (t u : Tables) → Extends t u → (x : Untaken) → RefuserNamed t x.refuser → (tree : Expr) (ps below : List Piece) → UntakenStands env t x tree ps below → UntakenStands env u x tree ps below
 untaken_grows env t u e x k tree ps below h =

@@ -1,5 +1,5 @@
 -- What arguments with names do to the stack, and the calls that they end.
-use Rattle.std.proofs.Common.{◌≡◌, ℕ, zero, suc, ◌+◌, ◌-◌, ◌==◌, ◌<◌, ◌≤◌, Bool, true, false, ◌&&◌, List, [], ◌∷◌, ◌++◌, map, length, get_or, drop, Option, Some, None, option_map, if◌then◌else◌, refl, sym, ap, subst, ◌∙◌, arith, length-append, append-nil, append_assoc, ne_eqb}
+use Rattle.std.proofs.Common.{◌≡◌, Bor, ℕ, zero, suc, ◌+◌, ◌-◌, ◌==◌, ◌<◌, ◌≤◌, Bool, true, false, ◌&&◌, List, [], ◌∷◌, ◌++◌, map, length, get_or, drop, Option, Some, None, option_map, if◌then◌else◌, refl, sym, ap, subst, ◌∙◌, arith, length-append, append-nil, append_assoc, ne_eqb}
 use Rattle.std.proofs.lemmas.List.{map-append, map_push, drop_more, drop_all, reverse-append, length-reverse, get_or-reverse}
 use Rattle.std.specs.Prelude.{bytes_eq, reverse}
 use Rattle.vba_base.specs.declared.place.Place.{Place}
@@ -14,7 +14,8 @@ use Rattle.vba_tree.specs.Tree.{Parameter as Written_parameter}
 use Rattle.vba_values.specs.Types.{Declared}
 use Rattle.bound_project.specs.declared.declarations.Parameter.{Parameter}
 use Rattle.bound_project.specs.declared.node.Node.{Node}
-use Rattle.bound_project.specs.View.{declared_view, parameter_view}
+use Rattle.bound_project.specs.declared.declarations.Declarations.{Declarations}
+use Rattle.bound_project.specs.View.{declarations_view, declared_view, parameter_view}
 use Rattle.bound_project.specs.Expressions.{call, in_order}
 use Rattle.bound_project.specs.Expressions as bound
 use Rattle.bound_project.specs.Lists.{above, args_of}
@@ -30,8 +31,9 @@ use Rattle.bound_declarations.specs.constant_values.specs.declared_names.specs.b
 use Rattle.bound_declarations.specs.constant_values.specs.declared_names.specs.binder.specs.Storage.{bound_parameters, procedure_number}
 use Rattle.bound_forms.specs.Terms.{Env, Given, a_value, bound_arguments, parameter_named}
 use Rattle.bound_forms.specs.Terms as plain_terms
+use Rattle.bound_forms.specs.ClassDefaults.{declared_in}
 use Rattle.bound_declarations.specs.constant_values.specs.declared_names.specs.binder.specs.Signatures.{is_get, reader, parameters_in, call_type}
-use Rattle.bound_forms.specs.ExpressionsBound.{call_value, call_with, if_there, indexes_value, indexed_value, node_or, argument_of, callee, indexed, operand_of, term_of, givens, place_told, term_or, wrong_term, call_node}
+use Rattle.bound_forms.specs.ExpressionsBound.{along_value, call_value, call_with, if_there, indexes_value, indexed_value, node_or, argument_of, callee, indexed, operand_of, term_of, givens, place_told, term_or, wrong_term, call_node}
 use Rattle.bound_calls.specs.declared.term.Ending.{Ending}
 use Rattle.bound_calls.specs.declared.term.Routine.{Routine}
 use Rattle.bound_calls.specs.declared.term.Term.TheVariants as term
@@ -445,15 +447,15 @@ no_index : (value : Declared → plain_terms.Term → Place → Option bound.Exp
 no_index value w [] h = refl
 no_index value w (g ∷ gs) h = ap (λ b. is_get w.kind && b) h ∙ and_no (is_get w.kind)
 
-pub call_is : (value : Declared → plain_terms.Term → Place → Option bound.Expr) (number_of : plain_terms.Term → Place → Option bound.Expr) (env : Env) (place : Place) (gs : List Given) (base : Option bound.Expr) (space : Space) (number : ℕ) (w : Written) (read : ℕ × Written) (procedure : ℕ) (of : Declared) (parameters : List project.Parameter)
+pub call_is : (value : Declared → plain_terms.Term → Place → Option bound.Expr) (number_of along : plain_terms.Term → Place → Option bound.Expr) (env : Env) (place : Place) (gs : List Given) (base : Option bound.Expr) (space : Space) (number : ℕ) (w : Written) (read : ℕ × Written) (procedure : ℕ) (of : Declared) (parameters : List project.Parameter)
     (args : bound.Args) → reader env.scope space number w ≡ Some read → procedure ≡ procedure_number env.scope space read.0 → parameters ≡ parameters_in env.scope space read.1 → of ≡ call_type env.scope space read.1
-    → (length read.1.parameters == 0) ≡ false → bound_arguments value parameters gs ≡ Some args → call_with value number_of env place gs base space number w ≡ a_value (call_node base procedure args) of
-call_is value number_of env place gs base space number w read procedure of parameters args reads number_is parameters_are of_is some given =
+    → (length read.1.parameters == 0) ≡ false → bound_arguments value parameters gs ≡ Some args → call_with value number_of along env place gs base space number w ≡ a_value (call_node base procedure args) of
+call_is value number_of along env place gs base space number w read procedure of parameters args reads number_is parameters_are of_is some given =
     let all : bound_arguments value (parameters_in env.scope space read.1) gs ≡ Some args = ap (λ l. bound_arguments value l gs) (sym parameters_are) ∙ given in
     let called_as : ℕ × Written → plain_terms.Term = λ (f : ℕ × Written).
-    if indexes_value f.1 gs then node_or (call_value env base space f.0 f.1 (Some bound.no_args)) (λ n u. indexed_value number_of env place n u gs)
+    if indexes_value f.1 gs then node_or (call_value env base space f.0 f.1 (Some bound.no_args)) (λ n u. indexed_value number_of along env place n u gs)
     else call_value env base space f.0 f.1 (bound_arguments value (parameters_in env.scope space f.1) gs) in
-    let found : call_with value number_of env place gs base space number w ≡ called_as read = ap (λ o. if_there (option_map called_as o)) reads in
+    let found : call_with value number_of along env place gs base space number w ≡ called_as read = ap (λ o. if_there (option_map called_as o)) reads in
     found ∙ rw (no_index value read.1 gs some, all, number_is, of_is) refl
 
 names_long : (value : Declared → plain_terms.Term → Place → Option bound.Expr) (n : ℕ) (ps : List project.Parameter) (gs : List Given) (ks : List ℕ) (xs : List Argument) → AllNamedTaken value n ps gs ks xs → length ks ≡ length xs
@@ -517,7 +519,7 @@ call_stands env t r x d e named ending y place gs xs g ns ys between there below
     subst P (sym h.ending_is) (record {
       made = call_node s.base r.procedure args;
       is = ap (λ w. indexed env place w all) s.is ∙ ap (λ w. term_or w (wrong_term env place z all)) (taken_routine env place s.base s.space s.number s.written all
-          ∙ call_is value (operand_of env) env place all s.base s.space s.number s.written s.read r.procedure (declared_view r.of) ps args s.reads s.procedure_is s.parameters_are s.of_is some m.bound);
+          ∙ call_is value (operand_of env) (along_value env) env place all s.base s.space s.number s.written s.read r.procedure (declared_view r.of) ps args s.reads s.procedure_is s.parameters_are s.of_is some m.bound);
       ends = call_ends t r.receiver s.base r.procedure o.arguments o.order m.places m.all e.pieces there below s.received on m.arguments_is m.order_is m.on_top;
     })
 
@@ -546,16 +548,16 @@ called_stands env x d e named ending y before (g ∷ ns) made gs between below s
     let p = s.passed in
     subst A (sym is) (call_stands env e.tables x.routine x.passed d e named ending (callee env y (term_of env y)) (place_told y) (givens env before) p.made g ns made between s.between below h refl s.routine s.there p.taken p.count_is names a p.on_top)
 
-index_stands : (env : Env) (x : Call) (k : ℕ) (ks : List ℕ) (ending : Ending) (left right : Token) (xs : List Item) (d e : Drafted) → AllNamed d.tables xs → EndsNamed x.routine x.passed (reverse (k ∷ ks)) d e ending → (is : List nodes.Item)
+index_stands : (env : Env) (x : Call) (k : ℕ) (ks : List ℕ) (ending : Ending) (known : Bor Declarations) → declared_in env.scope ≡ declarations_view known.now → (left right : Token) (xs : List Item) (d e : Drafted) → AllNamed d.tables xs → EndsNamed x.routine x.passed (reverse (k ∷ ks)) d e ending → (is : List nodes.Item)
     (base : Base) → Stands env d.tables (with_named (k ∷ ks) (item.Call x ∷ xs)) is d.pieces base
-    → Stands env e.tables (item.Tree (record { place = x.place; name = None; dotted = None; term = term.Value ending }) ∷ xs) (behind_node (node.Index left right) is) e.pieces base
-index_stands env x k ks ending left right xs d e n c [] base h = absurd h
-index_stands env x k ks ending left right xs d e n c (nodes.tree y ∷ is) base h = absurd h
-index_stands env x k ks ending left right xs d e n c (nodes.arguments args ∷ []) base h =
+    → Stands env e.tables (item.Tree (record { place = x.place; name = None; dotted = None; term = term.Value ending; declared = known }) ∷ xs) (behind_node (node.Index left right) is) e.pieces base
+index_stands env x k ks ending known w left right xs d e n c [] base h = absurd h
+index_stands env x k ks ending known w left right xs d e n c (nodes.tree y ∷ is) base h = absurd h
+index_stands env x k ks ending known w left right xs d e n c (nodes.arguments args ∷ []) base h =
     let u = unpacked env d.tables (k ∷ ks) (item.Call x) xs x.passed args [] d.pieces base refl h in absurd u.stands
-index_stands env x k ks ending left right xs d e n c (nodes.arguments args ∷ nodes.arguments more ∷ is) base h =
+index_stands env x k ks ending known w left right xs d e n c (nodes.arguments args ∷ nodes.arguments more ∷ is) base h =
     let u = unpacked env d.tables (k ∷ ks) (item.Call x) xs x.passed args (nodes.arguments more ∷ is) d.pieces base refl h in absurd u.stands
-index_stands env x k ks ending left right xs d e n c (nodes.arguments args ∷ nodes.tree y ∷ is) base h =
+index_stands env x k ks ending known w left right xs d e n c (nodes.arguments args ∷ nodes.tree y ∷ is) base h =
     let u = unpacked env d.tables (k ∷ ks) (item.Call x) xs x.passed args (nodes.tree y ∷ is) d.pieces base refl h in
     let s = u.stands.1.0 in
     let below = u.stands.0 in
@@ -570,23 +572,24 @@ index_stands env x k ks ending left right xs d e n c (nodes.arguments args ∷ n
           name_is = refl;
           qualifier_is = refl;
           leaf = tt;
+          declared_is = w;
         },
         stands_grows env d.tables e.tables c.ends.grown.tables xs n is below base u.stands.1.1,
       ),
     )
 
-index_some : (env : Env) (x : Call) (ks : List ℕ) (ending : Ending) (left right : Token) (xs : List Item) (d e : Drafted) → (ks ≡ [] → ⊥) → AllNamed d.tables xs → EndsNamed x.routine x.passed (reverse ks) d e ending → (is : List nodes.Item)
+index_some : (env : Env) (x : Call) (ks : List ℕ) (ending : Ending) (known : Bor Declarations) → declared_in env.scope ≡ declarations_view known.now → (left right : Token) (xs : List Item) (d e : Drafted) → (ks ≡ [] → ⊥) → AllNamed d.tables xs → EndsNamed x.routine x.passed (reverse ks) d e ending → (is : List nodes.Item)
     (base : Base) → Stands env d.tables (with_named ks (item.Call x ∷ xs)) is d.pieces base
-    → Stands env e.tables (item.Tree (record { place = x.place; name = None; dotted = None; term = term.Value ending }) ∷ xs) (behind_node (node.Index left right) is) e.pieces base
-index_some env x [] ending left right xs d e some n c is base h = absurd (some refl)
-index_some env x (k ∷ ks) ending left right xs d e some n c is base h = index_stands env x k ks ending left right xs d e n c is base h
+    → Stands env e.tables (item.Tree (record { place = x.place; name = None; dotted = None; term = term.Value ending; declared = known }) ∷ xs) (behind_node (node.Index left right) is) e.pieces base
+index_some env x [] ending known w left right xs d e some n c is base h = absurd (some refl)
+index_some env x (k ∷ ks) ending known w left right xs d e some n c is base h = index_stands env x k ks ending known w left right xs d e n c is base h
 
-pub goes_index : (env : Env) (x : Call) (ks : List ℕ) (ending : Ending) (left right : Token) (xs old new : List Item) (d e : Drafted) → (ks ≡ [] → ⊥) → old ≡ item.Call x ∷ xs
-    → new ≡ item.Tree (record { place = x.place; name = None; dotted = None; term = term.Value ending }) ∷ xs → AllNamed d.tables old → EndsNamed x.routine x.passed (reverse ks) d e ending
+pub goes_index : (env : Env) (x : Call) (ks : List ℕ) (ending : Ending) (known : Bor Declarations) → declared_in env.scope ≡ declarations_view known.now → (left right : Token) (xs old new : List Item) (d e : Drafted) → (ks ≡ [] → ⊥) → old ≡ item.Call x ∷ xs
+    → new ≡ item.Tree (record { place = x.place; name = None; dotted = None; term = term.Value ending; declared = known }) ∷ xs → AllNamed d.tables old → EndsNamed x.routine x.passed (reverse ks) d e ending
     → Goes env d (with_named ks old) e new (behind_node (node.Index left right))
-goes_index env x ks ending left right xs old new d e some o n k c =
+goes_index env x ks ending known w left right xs old new d e some o n k c =
     let g = behind_node (node.Index left right) in
-    let y = item.Tree (record { place = x.place; name = None; dotted = None; term = term.Value ending }) in
+    let y = item.Tree (record { place = x.place; name = None; dotted = None; term = term.Value ending; declared = known }) in
     let N : List Item → Type 0 = λ l. AllNamed d.tables l in
     let A : List Item → Type 0 = λ l. Goes env d (with_named ks l) e new g in
     let B : List Item → Type 0 = λ l. Goes env d (with_named ks (item.Call x ∷ xs)) e l g in
@@ -594,5 +597,5 @@ goes_index env x ks ending left right xs old new d e some o n k c =
     subst A (sym o) (subst B (sym n) (record {
       grown = c.ends.grown;
       named = (ending_named x.routine x.passed (reverse ks) d e ending c, all_named d.tables e.tables c.ends.grown.tables xs all.1);
-      stands = λ is base h. index_some env x ks ending left right xs d e some all.1 c is base h;
+      stands = λ is base h. index_some env x ks ending known w left right xs d e some all.1 c is base h;
     }))

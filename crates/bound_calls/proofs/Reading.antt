@@ -36,16 +36,16 @@ no_index : (value : Declared → plain.Term → Place → Option bound.Expr) (s 
 no_index value s w [] xs left t = refl
 no_index value s w (g ∷ gs) xs left t = ap (λ b. is_get w.kind && b) (some_written value s _ w.parameters g gs xs left t) ∙ and_no (is_get w.kind)
 
-pub call_is : (value : Declared → plain.Term → Place → Option bound.Expr) (number_of : plain.Term → Place → Option bound.Expr) (env : Env) (place : Place) (gs : List Given) (base : Option bound.Expr) (space : Space) (number : ℕ) (w : Written) (read : ℕ × Written) (procedure : ℕ) (of : Declared) (parameters : List project.Parameter)
+pub call_is : (value : Declared → plain.Term → Place → Option bound.Expr) (number_of along : plain.Term → Place → Option bound.Expr) (env : Env) (place : Place) (gs : List Given) (base : Option bound.Expr) (space : Space) (number : ℕ) (w : Written) (read : ℕ × Written) (procedure : ℕ) (of : Declared) (parameters : List project.Parameter)
     (args : bound.Args) (xs : List Argument) (left : List project.Parameter) → reader env.scope space number w ≡ Some read → procedure ≡ procedure_number env.scope space read.0 → parameters ≡ parameters_in env.scope space read.1
-    → of ≡ call_type env.scope space read.1 → AllTaken value parameters gs xs left → bound_arguments value parameters gs ≡ Some args → call_with value number_of env place gs base space number w ≡ a_value (call_node base procedure args) of
-call_is value number_of env place gs base space number w read procedure of parameters args xs left reads number_is parameters_are of_is taken given =
+    → of ≡ call_type env.scope space read.1 → AllTaken value parameters gs xs left → bound_arguments value parameters gs ≡ Some args → call_with value number_of along env place gs base space number w ≡ a_value (call_node base procedure args) of
+call_is value number_of along env place gs base space number w read procedure of parameters args xs left reads number_is parameters_are of_is taken given =
     let all : bound_arguments value (parameters_in env.scope space read.1) gs ≡ Some args = ap (λ l. bound_arguments value l gs) (sym parameters_are) ∙ given in
     let A : List project.Parameter → Type 0 = λ l. AllTaken value l gs xs left in
     let called_as : ℕ × Written → plain.Term = λ (f : ℕ × Written).
-    if indexes_value f.1 gs then node_or (call_value env base space f.0 f.1 (Some bound.no_args)) (λ n u. indexed_value number_of env place n u gs)
+    if indexes_value f.1 gs then node_or (call_value env base space f.0 f.1 (Some bound.no_args)) (λ n u. indexed_value number_of along env place n u gs)
     else call_value env base space f.0 f.1 (bound_arguments value (parameters_in env.scope space f.1) gs) in
-    let found : call_with value number_of env place gs base space number w ≡ called_as read = ap (λ o. if_there (option_map called_as o)) reads in
+    let found : call_with value number_of along env place gs base space number w ≡ called_as read = ap (λ o. if_there (option_map called_as o)) reads in
     found ∙ rw (no_index value (scope_in (home env.scope space) read.1) read.1 gs xs left (subst A parameters_are taken), all, number_is, of_is) refl
 
 -- ---- assignments

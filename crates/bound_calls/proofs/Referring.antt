@@ -12,7 +12,7 @@ use Rattle.bound_project.specs.declared.declared_type.ElementType.TheVariants as
 use Rattle.bound_project.specs.declared.variable.ErrMember.TheVariants as err_member
 use Rattle.bound_project.specs.declared.node.NodeKind.{NodeKind}
 use Rattle.bound_project.specs.declared.node.NodeKind.TheVariants as node
-use Rattle.bound_project.specs.View.{declared_view}
+use Rattle.bound_project.specs.View.{declarations_view, declared_view}
 use Rattle.bound_project.specs.Project as project
 use Rattle.bound_project.specs.Expressions.{err_value, err_number, host_object, default_of, default_if_any, no_exprs, also}
 use Rattle.bound_project.specs.Expressions as bound
@@ -26,8 +26,14 @@ use Rattle.bound_declarations.specs.constant_values.specs.declared_names.specs.b
 use Rattle.bound_declarations.specs.constant_values.specs.declared_names.specs.binder.specs.Constants.{is_variant}
 use Rattle.bound_forms.specs.Terms.{Env, a_value, bound_arguments, broken_rule, expression_of, may_lack, typed_value, routine_term, read_of, value_in, member_read}
 use Rattle.bound_forms.specs.Terms as plain
-use Rattle.bound_forms.specs.ExpressionsBound.{lacking_call, has_default, default_rule, host_kind, bare_call, call_value, if_there, has_object, plain_operand, if_any, given_way, default_value, typed_reference, value_of, operand_of, reference_of, given_as, term_of, place_told, call_node, is_reference_type}
+use Rattle.bound_forms.specs.ClassDefaults.{declared_in, default_read}
+use Rattle.bound_forms.specs.ClassDefaults as plain_defaults
+use Rattle.bound_forms.specs.ExpressionsBound.{lacking_call, class_given_way, default_rule, host_kind, bare_call, call_value, if_there, has_object, plain_operand, if_any, given_way, default_value, typed_reference, value_of, operand_of, reference_of, given_as, term_of, place_told, call_node, is_reference_type}
 use Rattle.bound_declarations.specs.constant_values.specs.declared_names.specs.binder.specs.Signatures.{call_type, parameters_in}
+use Rattle.bound_declarations.specs.constant_values.specs.declared_names.specs.binder.specs.Classes.{class_in}
+use Rattle.class_defaults.specs.Known.{known_view}
+use Rattle.class_defaults.specs.declared.known.Known.{Known}
+use Rattle.class_defaults.specs.declared.known.Known.TheVariants as known
 use Rattle.bound_calls.specs.declared.term.Ending.{Ending}
 use Rattle.bound_calls.specs.declared.term.HostMember.{HostMember}
 use Rattle.bound_calls.specs.declared.term.Routine.{Routine}
@@ -37,7 +43,8 @@ use Rattle.bound_calls.specs.declared.term.Tree.{Tree}
 use Rattle.bound_calls.specs.Standing.{TermStands, EndingIs, RoutineIs, member_is}
 use Rattle.bound_calls.specs.Steps.{PushesLeft, PushesOperand}
 use Rattle.bound_calls.specs.Taking.{CallsRoutine, PushesSheet, ReadsMember, TakesValue, sheet_expression, read_kind}
-use Rattle.bound_calls.specs.References.{is_referring, refers, takes_none, may_refer, gives_way, default_node, DefaultBreaks, EndingGives, PushesAs, TakesReference, PushesReference, TakesGiven, PushesGiven, PushesIfAny}
+use Rattle.bound_calls.specs.References.{is_referring, refers, takes_none, may_refer, by_rule, gives_way, default_ending, DefaultBreaks, DefaultIs, EndingGives, PushesAs, TakesReference, PushesReference, TakesGiven, PushesGiven, PushesIfAny}
+use Rattle.class_defaults.proofs.Passed.{class_is}
 use Rattle.bound_calls.proofs.Growing.{grown_same, grown_pieces, grown_twice}
 use Rattle.bound_calls.proofs.Taking.{node_of, operand_split, not_err, sheet_stands, read_ends, read_named, value_called}
 
@@ -312,46 +319,102 @@ gives_no_err term.Nothing h = tt
 abbrev pub variant : DeclaredType
 variant = Plain element.Variant
 
-given_operand : (rule : Option ℕ) (place : Place) (e : bound.Expr) → bound.operand_type (given_way rule place e) ≡ type.variant
-given_operand None place e = refl
-given_operand (Some rule) place e = refl
+-- of what is no class the rule says it
+default_found : (d : project.Declarations) (place : Place) (made : bound.Node) (at : Place) (of : Declared) → class_in of ≡ None
+    → default_value d place (expression_of made at of) ≡ Some (given_way (default_rule (host_kind made of)) place (expression_of made at of))
+default_found d place made at (type.class n) h = let e : Some n ≡ None = h in absurd cc
+default_found d place made at of h = refl
 
-given_pushed : (t : Tables) (rule : Option ℕ) (place : Place) (e : bound.Expr) (below : List Piece) → put t (node_of (default_node rule place) place variant) (an_expr e ∷ below) ≡ an_expr (given_way rule place e) ∷ below
-given_pushed t None place e below = refl
-given_pushed t (Some rule) place e below = refl
+way_by_rule : (rule : Option ℕ) (place : Place) (e : bound.Expr) → Some (given_way rule place e) ≡ class_given_way (by_rule rule) place e
+way_by_rule None place e = refl
+way_by_rule (Some rule) place e = refl
 
-pub default_named : (t : Tables) (rule : Option ℕ) (place : Place) → NodeNamed t (default_node rule place)
-default_named t None place = tt
-default_named t (Some rule) place = tt
+-- what is known of the value to which an object gives way: of one of a class by its default member, and else by the rule
+pub class_default : (d : project.Declarations) (e : Ending) (number : ℕ) (found : Known) → class_in (declared_view e.of) ≡ Some number → known_view found ≡ default_read d number → DefaultIs d e found
+class_default d e number found is k = record {
+  is = λ t made ps below ends place at.
+      let same = class_is (declared_view e.of) number is in
+      ap (λ (u : Declared). default_value d place (expression_of made at u)) same
+      ∙ ap (λ (z : plain_defaults.Known). class_given_way z place (expression_of made at (type.class number))) (sym k)
+      ∙ ap (λ (u : Declared). class_given_way (known_view found) place (expression_of made at u)) (sym same);
+}
 
-default_found : (place : Place) (made : bound.Node) (at : Place) (of : Declared) → has_default of ≡ true
-    → default_value place (expression_of made at of) ≡ Some (given_way (default_rule (host_kind made of)) place (expression_of made at of))
-default_found place made at of h = ap (λ b. if b then Some (given_way (default_rule (host_kind made of)) place (expression_of made at of)) else None) h
+pub other_default : (d : project.Declarations) (e : Ending) (rule : Option ℕ) (found : Known) → class_in (declared_view e.of) ≡ None → DefaultBreaks e rule → known_view found ≡ by_rule rule → DefaultIs d e found
+other_default d e rule found none breaks k = record {
+  is = λ t made ps below ends place at.
+      let x = expression_of made at (declared_view e.of) in
+      default_found d place made at (declared_view e.of) none
+      ∙ ap (λ (r : Option ℕ). Some (given_way r place x)) (breaks.breaks t made ps below ends)
+      ∙ way_by_rule rule place x
+      ∙ ap (λ (z : plain_defaults.Known). class_given_way z place x) (sym k);
+}
 
-pub pushes_default : (x : Tree) (d m n e : Drafted) (v : Ending) (rule : Option ℕ) → gives_way x.term ≡ true → TakesReference x.term d m v → DefaultBreaks v rule → n ≡ record m { pieces = put m.tables (node_of v.kind x.place v.of) m.pieces }
-    → e ≡ record n { pieces = put n.tables (node_of (default_node rule x.place) x.place variant) n.pieces } → PushesOperand x d e (Some variant)
-pushes_default x d m n e v rule w t breaks one two =
+-- the node that stands behind the object
+pub behind_named : (t : Tables) (found : Known) (place : Place) (behind : Ending) → default_ending found place ≡ Some behind → NodeNamed t behind.kind
+behind_named t (known.Type of) place behind h =
+    let made : Ending = record { kind = node.DefaultOf; of = of } in
+    let e : Some made ≡ Some behind = h in
+    let same : made ≡ behind = cc in
+    let N : Ending → Type 0 = λ b. NodeNamed t b.kind in
+    subst N same tt
+behind_named t (known.Breaks rule) place behind h =
+    let made : Ending = record { kind = node.Marked (record { rule = rule; place = place }) 1; of = variant } in
+    let e : Some made ≡ Some behind = h in
+    let same : made ≡ behind = cc in
+    let N : Ending → Type 0 = λ b. NodeNamed t b.kind in
+    subst N same tt
+behind_named t known.NotSaid place behind h = let e : None ≡ Some behind = h in absurd cc
+
+record GivesWay (t : Tables) (found : Known) (place : Place) (behind : Ending) (x : bound.Expr) (below : List Piece) : Type 0 where
+  pub made : bound.Expr
+  pub is : class_given_way (known_view found) place x ≡ Some made
+  pub operand : bound.operand_type made ≡ declared_view behind.of
+  pub on_top : put t (node_of behind.kind place behind.of) (an_expr x ∷ below) ≡ an_expr made ∷ below
+
+behind_gives : (t : Tables) (found : Known) (place : Place) (behind : Ending) (x : bound.Expr) (below : List Piece) → default_ending found place ≡ Some behind → GivesWay t found place behind x below
+behind_gives t (known.Type of) place behind x below h =
+    let made : Ending = record { kind = node.DefaultOf; of = of } in
+    let e : Some made ≡ Some behind = h in
+    let same : made ≡ behind = cc in
+    let N : Ending → Type 0 = λ b. GivesWay t (known.Type of) place b x below in
+    subst N same (record { made = expression_of (default_of x) place (declared_view of); is = refl; operand = refl; on_top = refl })
+behind_gives t (known.Breaks rule) place behind x below h =
+    let made : Ending = record { kind = node.Marked (record { rule = rule; place = place }) 1; of = variant } in
+    let e : Some made ≡ Some behind = h in
+    let same : made ≡ behind = cc in
+    let N : Ending → Type 0 = λ b. GivesWay t (known.Breaks rule) place b x below in
+    subst N same (record { made = broken_rule rule place (also x no_exprs); is = refl; operand = refl; on_top = refl })
+behind_gives t known.NotSaid place behind x below h = let e : None ≡ Some behind = h in absurd cc
+
+pub pushes_default : (x : Tree) (d m n e : Drafted) (v : Ending) (found : Known) (behind : Ending) → gives_way x.term ≡ true → TakesReference x.term d m v → DefaultIs (declarations_view x.declared.now) v found
+    → default_ending found x.place ≡ Some behind → n ≡ record m { pieces = put m.tables (node_of v.kind x.place v.of) m.pieces }
+    → e ≡ record n { pieces = put n.tables (node_of behind.kind x.place behind.of) n.pieces } → PushesOperand x d e (Some behind.of)
+pushes_default x d m n e v found behind w t gives is one two =
     let n1 : Drafted = record m { pieces = put m.tables (node_of v.kind x.place v.of) m.pieces } in
-    let e1 : Drafted = record n1 { pieces = put n1.tables (node_of (default_node rule x.place) x.place variant) n1.pieces } in
-    let all : e ≡ e1 = two ∙ ap (λ (z : Drafted). record z { pieces = put z.tables (node_of (default_node rule x.place) x.place variant) z.pieces }) one in
-    let P : Drafted → Type 0 = λ z. PushesOperand x d z (Some variant) in
+    let e1 : Drafted = record n1 { pieces = put n1.tables (node_of behind.kind x.place behind.of) n1.pieces } in
+    let all : e ≡ e1 = two ∙ ap (λ (z : Drafted). record z { pieces = put z.tables (node_of behind.kind x.place behind.of) z.pieces }) one in
+    let P : Drafted → Type 0 = λ z. PushesOperand x d z (Some behind.of) in
     subst P (sym all) (record {
       grown = grown_twice d m e1 t.grown (grown_twice m n1 e1 (grown_pieces m n1.pieces) (grown_pieces n1 e1.pieces));
       stands = λ env tree below k.
           let place = place_told tree in
           let y = term_of env tree in
+          let s = declared_in env.scope in
           let h = t.stands env y below k.term_is x.place in
           let reference = expression_of h.made x.place (declared_view v.of) in
+          let g = behind_gives m.tables found x.place behind reference below is in
           let A : Place → Type 0 = λ (q : Place). reference_of env y q ≡ Some reference in
           record {
-            made = given_way rule x.place reference;
+            made = g.made;
             is = operand_split env d.tables x.term (gives_no_err x.term w) y d.pieces below k.term_is place
-                ∙ ap (λ o. or_else (option_map plain_operand o) (option_and_then (default_value place) (reference_of env y place))) (no_value_there env d.tables x.term y d.pieces below (gives_refers x.term w) k.term_is place)
-                ∙ ap (λ o. option_and_then (default_value place) o) (subst A k.place_is h.is) ∙ default_found place h.made x.place (declared_view v.of) breaks.built
-                ∙ ap (λ (r : Option ℕ). Some (given_way r place reference)) (breaks.breaks m.tables h.made m.pieces below h.ends)
-                ∙ ap (λ (q : Place). Some (given_way rule q reference)) (sym k.place_is);
-            operand = given_operand rule x.place reference;
-            on_top = ap (λ st. put m.tables (node_of (default_node rule x.place) x.place variant) st) (h.ends (node_of v.kind x.place v.of)) ∙ given_pushed m.tables rule x.place reference below;
+                ∙ ap (λ o. or_else (option_map plain_operand o) (option_and_then (default_value s place) (reference_of env y place))) (no_value_there env d.tables x.term y d.pieces below (gives_refers x.term w) k.term_is place)
+                ∙ ap (λ o. option_and_then (default_value s place) o) (subst A k.place_is h.is)
+                ∙ ap (λ (z : project.Declarations). default_value z place reference) k.declared_is
+                ∙ gives.is m.tables h.made m.pieces below h.ends place x.place
+                ∙ ap (λ (q : Place). class_given_way (known_view found) q reference) (sym k.place_is)
+                ∙ g.is;
+            operand = g.operand;
+            on_top = ap (λ st. put m.tables (node_of behind.kind x.place behind.of) st) (h.ends (node_of v.kind x.place v.of)) ∙ g.on_top;
           };
     })
 
@@ -464,8 +527,8 @@ value_plainly x d m e v of n t p = record {
       let here : value_of env y place ≡ Some (expression_of h.made x.place (declared_view v.of)) = ap (λ (q : Place). value_of env y q) (sym k.place_is) ∙ h.is in
       record {
         made = s.made;
-        is = operand_split env d.tables x.term n y d.pieces below k.term_is place ∙ ap (λ o. or_else (option_map plain_operand o) (option_and_then (default_value place) (reference_of env y place))) here
-            ∙ ap (λ o. or_else o (option_and_then (default_value place) (reference_of env y place))) s.is;
+        is = operand_split env d.tables x.term n y d.pieces below k.term_is place ∙ ap (λ o. or_else (option_map plain_operand o) (option_and_then (default_value (declared_in env.scope) place) (reference_of env y place))) here
+            ∙ ap (λ o. or_else o (option_and_then (default_value (declared_in env.scope) place) (reference_of env y place))) s.is;
         operand = s.operand;
         on_top = s.on_top;
       };

@@ -1,5 +1,5 @@
 -- What arguments break is told by their shapes.
-use Rattle.std.proofs.Common.{◌≡◌, ℕ, zero, suc, Bool, true, false, ◌||◌, ◌&&◌, not, List, [], ◌∷◌, map, length, Option, Some, None, is_some, if◌then◌else◌, refl, ap, ◌∙◌}
+use Rattle.std.proofs.Common.{◌≡◌, ℕ, zero, suc, ◌==◌, Bool, true, false, ◌||◌, ◌&&◌, not, List, [], ◌∷◌, map, length, Option, Some, None, is_some, if◌then◌else◌, refl, ap, ◌∙◌}
 use Rattle.std.specs.Prelude.{option_and_then}
 use Rattle.vba_values.specs.Types.{Declared}
 use Rattle.vba_values.specs.Types as type
@@ -109,3 +109,5 @@ rule_shaped t refuser.Bare [] [] h = refl
 rule_shaped t refuser.Bare [] (g ∷ gs) h = absurd h
 rule_shaped t refuser.Bare (s ∷ ss) [] h = absurd h
 rule_shaped t refuser.Bare (s ∷ ss) (g ∷ gs) h = refl
+rule_shaped t (refuser.Led rule count) ss gs h =
+    ap (λ b. if b && (length (shapes_given ss) == count) then Some rule else None) (places_same ss gs h) ∙ ap (λ n. if are_places gs && (n == count) then Some rule else None) (shapes_long ss gs h)

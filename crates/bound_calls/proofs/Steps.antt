@@ -20,7 +20,7 @@ use Rattle.bound_project.specs.declared.declared_type.DeclaredType.TheVariants.{
 use Rattle.bound_project.specs.declared.declared_type.ElementType.TheVariants as element
 use Rattle.bound_project.specs.declared.node.NodeKind.TheVariants as kind
 use Rattle.vba_values.specs.Types.{Declared}
-use Rattle.bound_project.specs.View.{declared_view}
+use Rattle.bound_project.specs.View.{declarations_view, declared_view}
 use Rattle.bound_project.specs.Expressions as bound
 use Rattle.bound_project.specs.Expressions.{constant, same}
 use Rattle.bound_project.specs.Pieces.{Piece, Tables, an_expr, expr_of, of_both}
@@ -29,6 +29,7 @@ use Rattle.bound_project.proofs.Drafts.{constant_last}
 use Rattle.bound_declarations.specs.constant_values.specs.declared_names.specs.binder.specs.Constants.{compare_in, operator_kind, value_type}
 use Rattle.bound_forms.specs.Terms.{Env, a_value, expression_of}
 use Rattle.bound_forms.specs.Terms as plain
+use Rattle.bound_forms.specs.ClassDefaults.{declared_in}
 use Rattle.bound_forms.specs.ExpressionsBound.{term_of, value_of, operand_of, reference_of, given_as, as_value, binary_term, same_term, if_there, value_term, literal_term, bound_value, bound_operand, place_told}
 use Rattle.vba_words.specs.declared.identifier.Identifier.{Identifier}
 use Rattle.bound_calls.specs.declared.term.Ending.{Ending}
@@ -80,26 +81,26 @@ leaf_same : (name : Option Identifier) (ps : List Piece) → LeafStands name ps 
 leaf_same (Some name) ps = refl
 leaf_same None ps = tt
 
-leaf_stands : (env : Env) (xs ys : List Item) (d e f : Drafted) (x : Tree) (tree : Expr) → Goes env d xs e ys (λ is. is) → MakesLeaf env e f x.term (term_of env tree) → x.place ≡ place_told tree
+leaf_stands : (env : Env) (xs ys : List Item) (d e f : Drafted) (x : Tree) (tree : Expr) → declared_in env.scope ≡ declarations_view x.declared.now → Goes env d xs e ys (λ is. is) → MakesLeaf env e f x.term (term_of env tree) → x.place ≡ place_told tree
     → option_map (λ name. name.now) x.name ≡ name_in tree → QualifierStands env (option_map (λ name. name.now) x.name) x.dotted tree f.pieces f.pieces → (is : List nodes.Item) (base : Base) → Stands env d.tables xs is d.pieces base
     → Stands env f.tables (item.Tree x ∷ ys) (nodes.tree tree ∷ is) f.pieces base
-leaf_stands env xs ys d e f x tree g m p n q is base h = (
+leaf_stands env xs ys d e f x tree w g m p n q is base h = (
   f.pieces,
   (
-    record { term_is = m.stands f.pieces; place_is = p; name_is = n; qualifier_is = q; leaf = leaf_same (option_map (λ name. name.now) x.name) f.pieces },
+    record { term_is = m.stands f.pieces; place_is = p; name_is = n; qualifier_is = q; leaf = leaf_same (option_map (λ name. name.now) x.name) f.pieces; declared_is = w },
     (let A : List Piece → Type 0 = λ ps. Stands env f.tables ys is ps base in
         subst A (sym m.pieces) (stands_grows env e.tables f.tables m.grown.tables ys g.named is e.pieces base (g.stands is base h))),
   ),
 )
 
-pub goes_leaf : (env : Env) (xs ys new : List Item) (d e f : Drafted) (x : Tree) (tree : Expr) → Goes env d xs e ys (λ is. is) → MakesLeaf env e f x.term (term_of env tree) → x.place ≡ place_told tree
+pub goes_leaf : (env : Env) (xs ys new : List Item) (d e f : Drafted) (x : Tree) (tree : Expr) → declared_in env.scope ≡ declarations_view x.declared.now → Goes env d xs e ys (λ is. is) → MakesLeaf env e f x.term (term_of env tree) → x.place ≡ place_told tree
     → option_map (λ name. name.now) x.name ≡ name_in tree → QualifierStands env (option_map (λ name. name.now) x.name) x.dotted tree f.pieces f.pieces → new ≡ item.Tree x ∷ ys → Goes env d xs f new (λ is. nodes.tree tree ∷ is)
-goes_leaf env xs ys new d e f x tree g m p n q eq =
+goes_leaf env xs ys new d e f x tree w g m p n q eq =
     let A : List Item → Type 0 = λ l. Goes env d xs f l (λ is. nodes.tree tree ∷ is) in
     subst A (sym eq) (record {
       grown = grown_twice d e f g.grown m.grown;
       named = (m.named, all_named e.tables f.tables m.grown.tables ys g.named);
-      stands = λ is base h. leaf_stands env xs ys d e f x tree g m p n q is base h;
+      stands = λ is base h. leaf_stands env xs ys d e f x tree w g m p n q is base h;
     })
 
 -- ---- parentheses
@@ -133,19 +134,19 @@ goes_made env x y xs old new d e f o n grown k named make g eq =
     }))
 
 pub goes_parenthesised : (env : Env) (x : Tree) (left right : Token) (v : Ending) (xs old new : List Item) (d e : Drafted) → old ≡ item.Tree x ∷ xs
-    → new ≡ item.Tree (record { place = x.place; name = None; dotted = None; term = term.Value v }) ∷ xs → AllNamed d.tables old → TakesGiven x.term x.place d e v → Goes env d old e new (behind_node (node.Parenthesised left right))
+    → new ≡ item.Tree (record { place = x.place; name = None; dotted = None; term = term.Value v; declared = x.declared }) ∷ xs → AllNamed d.tables old → TakesGiven x.term x.place d e v → Goes env d old e new (behind_node (node.Parenthesised left right))
 goes_parenthesised env x left right v xs old new d e o n k g =
-    goes_made env x (record { place = x.place; name = None; dotted = None; term = term.Value v }) xs old new d e (λ tree. parenthesised left tree right) o n g.grown k g.named
-    (λ tree below h. record { term_is = valued env e.tables v (term_of env tree) (place_told tree) e.pieces below (subst (λ (place : Place). EndingIs e.tables v place (given_as env (term_of env tree) place) e.pieces below) h.place_is (g.stands env (term_of env tree) below h.term_is)); place_is = h.place_is; name_is = refl; qualifier_is = refl; leaf = tt })
+    goes_made env x (record { place = x.place; name = None; dotted = None; term = term.Value v; declared = x.declared }) xs old new d e (λ tree. parenthesised left tree right) o n g.grown k g.named
+    (λ tree below h. record { term_is = valued env e.tables v (term_of env tree) (place_told tree) e.pieces below (subst (λ (place : Place). EndingIs e.tables v place (given_as env (term_of env tree) place) e.pieces below) h.place_is (g.stands env (term_of env tree) below h.term_is)); place_is = h.place_is; name_is = refl; qualifier_is = refl; leaf = tt; declared_is = h.declared_is })
     (behind_node (node.Parenthesised left right)) (λ tree is. refl)
 
 -- ---- operators
 
 pub goes_unary : (env : Env) (x : Tree) (operator : UnaryOperator) (token : Token) (of : Option DeclaredType) (made : Term) (xs old new : List Item) (d e : Drafted) → old ≡ item.Tree x ∷ xs
-    → new ≡ item.Tree (record { place = token.place; name = None; dotted = None; term = made }) ∷ xs → AllNamed d.tables old → PushesOperand x d e of → MakesUnary operator of made → Goes env d old e new (behind_node (node.Unary operator token))
+    → new ≡ item.Tree (record { place = token.place; name = None; dotted = None; term = made; declared = x.declared }) ∷ xs → AllNamed d.tables old → PushesOperand x d e of → MakesUnary operator of made → Goes env d old e new (behind_node (node.Unary operator token))
 goes_unary env x operator token of made xs old new d e o n k p m =
-    goes_made env x (record { place = token.place; name = None; dotted = None; term = made }) xs old new d e (λ tree. unary operator token tree) o n p.grown k (m.named e.tables)
-    (λ tree below h. record { term_is = m.stands env e.tables (operand_of env (term_of env tree) (place_told tree)) e.pieces below (p.stands env tree below h); place_is = refl; name_is = refl; qualifier_is = refl; leaf = tt })
+    goes_made env x (record { place = token.place; name = None; dotted = None; term = made; declared = x.declared }) xs old new d e (λ tree. unary operator token tree) o n p.grown k (m.named e.tables)
+    (λ tree below h. record { term_is = m.stands env e.tables (operand_of env (term_of env tree) (place_told tree)) e.pieces below (p.stands env tree below h); place_is = refl; name_is = refl; qualifier_is = refl; leaf = tt; declared_is = h.declared_is })
     (behind_node (node.Unary operator token)) (λ tree is. refl)
 
 -- but for Is an operator takes operands
@@ -179,7 +180,7 @@ plain_left b env t place h = rw h refl
 binary_stands : (env : Env) (left : Operand) (x : Tree) (operator : BinaryOperator) (token : Token) (of : Option DeclaredType) (made : Term) (xs : List Item) (d e : Drafted) (compare : Compare) → is_same operator ≡ false → left.is_reference ≡ false → compare ≡ compare_in env.scope
     → AllNamed d.tables xs → PushesOperand x d e of → MakesBinary compare operator left.of of made → (is : List nodes.Item) (base : Base)
     → Stands env d.tables (item.Tree x ∷ item.Operand left ∷ xs) is d.pieces base
-    → Stands env e.tables (item.Tree (record { place = token.place; name = None; dotted = None; term = made }) ∷ xs) (behind_node (node.Binary operator token) is) e.pieces base
+    → Stands env e.tables (item.Tree (record { place = token.place; name = None; dotted = None; term = made; declared = x.declared }) ∷ xs) (behind_node (node.Binary operator token) is) e.pieces base
 binary_stands env left x operator token of made xs d e compare o q c k p m [] base h = absurd h
 binary_stands env left x operator token of made xs d e compare o q c k p m (nodes.arguments args ∷ is) base h = absurd h
 binary_stands env left x operator token of made xs d e compare o q c k p m (nodes.tree r ∷ []) base h = absurd h.1.1
@@ -197,13 +198,14 @@ binary_stands env left x operator token of made xs d e compare o q c k p m (node
           name_is = refl;
           qualifier_is = refl;
           leaf = tt;
+          declared_is = h.1.0.declared_is;
         },
         stands_grows env d.tables e.tables p.grown.tables xs k is low.0 base low.1.1,
       ),
     )
 
 pub goes_binary : (env : Env) (left : Operand) (x : Tree) (operator : BinaryOperator) (token : Token) (of : Option DeclaredType) (made : Term) (xs old between new : List Item) (d e : Drafted) (compare : Compare)
-    → is_same operator ≡ false → left.is_reference ≡ false → compare ≡ compare_in env.scope → old ≡ item.Tree x ∷ between → between ≡ item.Operand left ∷ xs → new ≡ item.Tree (record { place = token.place; name = None; dotted = None; term = made }) ∷ xs → AllNamed d.tables old
+    → is_same operator ≡ false → left.is_reference ≡ false → compare ≡ compare_in env.scope → old ≡ item.Tree x ∷ between → between ≡ item.Operand left ∷ xs → new ≡ item.Tree (record { place = token.place; name = None; dotted = None; term = made; declared = x.declared }) ∷ xs → AllNamed d.tables old
     → PushesOperand x d e of → MakesBinary compare operator left.of of made → Goes env d old e new (behind_node (node.Binary operator token))
 goes_binary env left x operator token of made xs old between new d e compare other q c o b n k p m =
     let g = behind_node (node.Binary operator token) in
@@ -239,7 +241,7 @@ left_pushed of u found ps below h k = let A : Option DeclaredType → Type 0 = �
 
 same_stands : (env : Env) (left : Operand) (u of : DeclaredType) (x : Tree) (token : Token) (xs : List Item) (d e : Drafted) → left.is_reference ≡ true → left.of ≡ Some u → AllNamed d.tables xs → PushesReference x d e of
     → (is : List nodes.Item) (base : Base) → Stands env d.tables (item.Tree x ∷ item.Operand left ∷ xs) is d.pieces base
-    → Stands env e.tables (item.Tree (record { place = token.place; name = None; dotted = None; term = term.Value same_ending }) ∷ xs) (behind_node (node.Binary operators.Is token) is) e.pieces base
+    → Stands env e.tables (item.Tree (record { place = token.place; name = None; dotted = None; term = term.Value same_ending; declared = x.declared }) ∷ xs) (behind_node (node.Binary operators.Is token) is) e.pieces base
 same_stands env left u of x token xs d e q v k p [] base h = absurd h
 same_stands env left u of x token xs d e q v k p (nodes.arguments args ∷ is) base h = absurd h
 same_stands env left u of x token xs d e q v k p (nodes.tree r ∷ []) base h = absurd h.1.1
@@ -258,13 +260,14 @@ same_stands env left u of x token xs d e q v k p (nodes.tree r ∷ nodes.tree l 
           name_is = refl;
           qualifier_is = refl;
           leaf = tt;
+          declared_is = h.1.0.declared_is;
         },
         stands_grows env d.tables e.tables p.grown.tables xs k is low.0 base low.1.1,
       ),
     )
 
 pub goes_same_object : (env : Env) (left : Operand) (u of : DeclaredType) (x : Tree) (token : Token) (xs old between new : List Item) (d e : Drafted) → left.is_reference ≡ true → left.of ≡ Some u → old ≡ item.Tree x ∷ between
-    → between ≡ item.Operand left ∷ xs → new ≡ item.Tree (record { place = token.place; name = None; dotted = None; term = term.Value same_ending }) ∷ xs → AllNamed d.tables old → PushesReference x d e of
+    → between ≡ item.Operand left ∷ xs → new ≡ item.Tree (record { place = token.place; name = None; dotted = None; term = term.Value same_ending; declared = x.declared }) ∷ xs → AllNamed d.tables old → PushesReference x d e of
     → Goes env d old e new (behind_node (node.Binary operators.Is token))
 goes_same_object env left u of x token xs old between new d e q v o b n k p =
     let g = behind_node (node.Binary operators.Is token) in

@@ -27,6 +27,7 @@ use Rattle.bound_declarations.specs.constant_values.specs.declared_names.specs.b
 use Rattle.bound_declarations.specs.constant_values.specs.declared_names.specs.binder.specs.Scopes.{Space}
 use Rattle.bound_forms.specs.Terms.{Env, a_host_member, bound_arguments, broken_rule, expression_of, member_read, no_names, no_term, typed_value, routine_term, read_of, value_in}
 use Rattle.bound_forms.specs.Terms as plain
+use Rattle.bound_forms.specs.ClassDefaults.{declared_in}
 use Rattle.bound_forms.specs.ExpressionsBound.{lacking_call, bare_call, call_value, if_there, plain_operand, without_arguments, value_of, reference_of, default_value, operand_of}
 use Rattle.bound_declarations.specs.constant_values.specs.declared_names.specs.binder.specs.Signatures.{parameters_in, reader}
 use Rattle.bound_declarations.specs.constant_values.specs.declared_names.specs.View.{space_view, written_view}
@@ -288,7 +289,7 @@ not_err term.Err = ⊥
 not_err x = Unit {0}
 
 Splits : Env → Place → plain.Term → Type 0
-Splits env place z = operand_of env z place ≡ or_else (option_map plain_operand (value_of env z place)) (option_and_then (default_value place) (reference_of env z place))
+Splits env place z = operand_of env z place ≡ or_else (option_map plain_operand (value_of env z place)) (option_and_then (default_value (declared_in env.scope) place) (reference_of env z place))
 
 split_routine : (env : Env) (base : Option bound.Expr) (space : Space) (number : ℕ) (written : Written) (place : Place) → Splits env place (routine_term base space number written)
 unfolding Splits
@@ -296,7 +297,7 @@ split_routine env None space number written place = refl
 split_routine env (Some b) space number written place = refl
 
 pub operand_split : (env : Env) (t : Tables) (x : Term) → not_err x → (y : plain.Term) (ps below : List Piece) → TermStands env t x y ps below → (place : Place)
-    → operand_of env y place ≡ or_else (option_map plain_operand (value_of env y place)) (option_and_then (default_value place) (reference_of env y place))
+    → operand_of env y place ≡ or_else (option_map plain_operand (value_of env y place)) (option_and_then (default_value (declared_in env.scope) place) (reference_of env y place))
 unfolding not_err Splits
 operand_split env t (term.Place kind of bounded lends makes) n y ps below h place = subst (Splits env place) (sym h.is) refl
 operand_split env t (term.Value e) n y ps below h place = subst (Splits env place) (sym h.is) refl

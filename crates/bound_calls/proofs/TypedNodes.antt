@@ -11,7 +11,7 @@ use Rattle.bound_project.specs.Expressions.{expr, not_given, constant, load, loa
 use Rattle.bound_project.specs.Expressions as bound
 use Rattle.bound_project.specs.Pieces.{Piece, an_expr, Tables, arguments_off, as_operand, expr_of, exprs_off, given_off, by_name_in, name_in, order_in, put_kind, sought_in}
 use Rattle.bound_project.specs.View.{base_view, declared_view}
-use Rattle.bound_forms.specs.ExpressionsBound.{has_default, host_kind, kind_by_type, kind_of_object, default_rule}
+use Rattle.bound_forms.specs.ExpressionsBound.{host_kind, kind_by_type, kind_of_object, default_rule}
 use Rattle.bound_calls.specs.declared.term.Ending.{Ending}
 use Rattle.bound_calls.specs.References.{DefaultBreaks, is_typed_kind}
 use Rattle.bound_calls.proofs.LastNodes.{any_node, value_passes, place_passes, both_pass, found_passes, value_found_passes, member_found_passes, named_found_passes, object_found_passes, late_found_passes}
@@ -128,16 +128,14 @@ typed_made t n k made ps below h e = kind_of n made (put_kind t n k ps) below (k
 pub object_made : (n : Node) (made : bound.Node) (r : HostRef) (ps below : List Piece) → expr_of n (host_object r) ∷ ps ≡ expr_of n made ∷ below → made ≡ host_object r
 object_made n made r ps below h = let e : host_object r ≡ made = cc in sym e
 
-pub host_breaks : (e : Ending) (r : HostRef) (rule : Option ℕ) → has_default (declared_view e.of) ≡ true → e.kind ≡ node.HostObject r → rule ≡ default_rule (kind_of_object r) → DefaultBreaks e rule
-host_breaks e r rule b is h = record {
-  built = b;
+pub host_breaks : (e : Ending) (r : HostRef) (rule : Option ℕ) → e.kind ≡ node.HostObject r → rule ≡ default_rule (kind_of_object r) → DefaultBreaks e rule
+host_breaks e r rule is h = record {
   breaks = λ t made ps below ends.
       let P : NodeKind → Type 0 = λ (x : NodeKind). put_kind t any_node x ps ≡ expr_of any_node made ∷ below in
       ap (λ (z : bound.Node). default_rule (host_kind z (declared_view e.of))) (object_made any_node made r ps below (subst P is (ends any_node))) ∙ sym h;
 }
 
-pub typed_breaks : (e : Ending) (rule : Option ℕ) → has_default (declared_view e.of) ≡ true → is_typed_kind e.kind ≡ true → rule ≡ default_rule (kind_by_type (declared_view e.of)) → DefaultBreaks e rule
-typed_breaks e rule b is h = record {
-  built = b;
+pub typed_breaks : (e : Ending) (rule : Option ℕ) → is_typed_kind e.kind ≡ true → rule ≡ default_rule (kind_by_type (declared_view e.of)) → DefaultBreaks e rule
+typed_breaks e rule is h = record {
   breaks = λ t made ps below ends. ap default_rule (typed_made t any_node e.kind made ps below is (ends any_node) (declared_view e.of)) ∙ sym h;
 }

@@ -7,6 +7,7 @@ use Rattle.vba_expression.specs.Nodes as nodes
 use Rattle.vba_expression.specs.Nodes.{behind_node}
 use Rattle.bound_project.specs.declared.node.NodeKind.{NodeKind}
 use Rattle.bound_project.specs.declared.node.NodeKind.TheVariants as kinds
+use Rattle.bound_project.specs.Project.{Declarations}
 use Rattle.bound_project.specs.View.{variable_view}
 use Rattle.bound_project.specs.Expressions.{Exprs, Lvalue}
 use Rattle.bound_project.specs.Expressions as bound
@@ -14,6 +15,7 @@ use Rattle.bound_project.specs.Pieces.{Piece, Tables}
 use Rattle.bound_project.specs.Pieces as piece
 use Rattle.bound_project.specs.Drafts.{Drafted}
 use Rattle.bound_forms.specs.Terms.{Env}
+use Rattle.bound_forms.specs.ClassDefaults.{declared_in}
 use Rattle.bound_forms.specs.ExpressionsBound.{callee, element_place, givens, indexed, item_of, term_of, place_told}
 use Rattle.bound_calls.specs.declared.term.Term.{Term}
 use Rattle.bound_calls.specs.declared.term.Tree.{Tree}
@@ -71,11 +73,11 @@ pub record AddsMissing (i : Item) (d e : Drafted) (j : Item) : Type 0 where
   pub stands : (env : Env) (comma : Option Token) (items : List Item) (is : List nodes.Item) (base : Base) → AllNamed d.tables items → Stands env d.tables (i ∷ items) is d.pieces base
       → Stands env e.tables (j ∷ items) (behind_node (node.MissingArgument comma) is) e.pieces base
 
--- arguments end
-pub record Closes (i : Item) (d e : Drafted) (y : Tree) : Type 0 where
+-- arguments end, in a project that declares this
+pub record Closes (known : Declarations) (i : Item) (d e : Drafted) (y : Tree) : Type 0 where
   pub grown : Grown d e
   pub named : TermNamed e.tables y.term
-  pub stands : (env : Env) (left right : Token) (items : List Item) (is : List nodes.Item) (base : Base) → AllNamed d.tables items → Stands env d.tables (i ∷ items) is d.pieces base
+  pub stands : (env : Env) → declared_in env.scope ≡ known → (left right : Token) (items : List Item) (is : List nodes.Item) (base : Base) → AllNamed d.tables items → Stands env d.tables (i ∷ items) is d.pieces base
       → Stands env e.tables (item.Tree y ∷ items) (behind_node (node.Index left right) is) e.pieces base
 
 -- what numbers make of what is indexed

@@ -1,5 +1,6 @@
 pub use Rattle.bound_forms
 pub use Rattle.bound_declarations
+pub use Rattle.class_defaults
 pub mod Standing
 pub mod Taking
 pub mod References

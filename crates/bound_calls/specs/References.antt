@@ -13,7 +13,13 @@ use Rattle.bound_project.specs.Drafts.{Drafted, NodeNamed}
 use Rattle.bound_declarations.specs.constant_values.specs.declared_names.specs.binder.specs.Constants.{is_variant}
 use Rattle.bound_forms.specs.Terms.{Env, expression_of, may_lack}
 use Rattle.bound_forms.specs.Terms as plain
-use Rattle.bound_forms.specs.ExpressionsBound.{may_give_object, has_object, if_any, host_kind, default_rule, reference_of, given_as, term_of, place_told, has_default, is_found_late, is_item_name, is_reference_type, may_be_instance}
+use Rattle.bound_forms.specs.ExpressionsBound.{may_give_object, has_object, if_any, host_kind, default_rule, reference_of, given_as, term_of, place_told, class_given_way, default_value, is_found_late, is_item_name, is_reference_type, may_be_instance}
+use Rattle.bound_forms.specs.ClassDefaults as plain_defaults
+use Rattle.bound_project.specs.Project.{Declarations}
+use Rattle.vba_values.specs.Types as type
+use Rattle.class_defaults.specs.Known.{known_view}
+use Rattle.class_defaults.specs.declared.known.Known.{Known}
+use Rattle.class_defaults.specs.declared.known.Known.TheVariants as known
 use Rattle.bound_calls.specs.declared.term.Ending.{Ending}
 use Rattle.bound_calls.specs.declared.term.Routine.{Routine}
 use Rattle.bound_calls.specs.declared.term.Term.{Term}
@@ -170,13 +176,23 @@ is_typed_kind k = false
 -- the rule that an object breaks where it gives way to the value of its default member, which isn't that of a class: of one
 -- that is always there by which it is, and else by its type
 pub record DefaultBreaks (e : Ending) (rule : Option ℕ) : Type 0 where
-  pub built : has_default (declared_view e.of) ≡ true
   pub breaks : (t : Tables) (made : bound.Node) (ps below : List Piece) → ValueEnds t e.kind made ps below → default_rule (host_kind made (declared_view e.of)) ≡ rule
 
--- the node with which an object gives way, or is marked
-abbrev pub default_node : Option ℕ → Place → NodeKind
-default_node None place = node.DefaultOf
-default_node (Some rule) place = node.Marked (record { rule = rule; place = place }) 1
+-- what is known by that rule: where it breaks none the run says of what type the value is
+abbrev pub by_rule : Option ℕ → plain_defaults.Known
+by_rule None = plain_defaults.known type.variant
+by_rule (Some rule) = plain_defaults.breaks rule
+
+-- what is known of the value to which an object gives way whose last node isn't pushed
+pub record DefaultIs (d : Declarations) (e : Ending) (found : Known) : Type 0 where
+  pub is : (t : Tables) (made : bound.Node) (ps below : List Piece) → ValueEnds t e.kind made ps below → (place at : Place)
+      → default_value d place (expression_of made at (declared_view e.of)) ≡ class_given_way (known_view found) place (expression_of made at (declared_view e.of))
+
+-- the node with which an object gives way, or is marked, and the type that then stands there
+abbrev pub default_ending : Known → Place → Option Ending
+default_ending (known.Type of) place = Some (record { kind = node.DefaultOf; of = of })
+default_ending (known.Breaks rule) place = Some (record { kind = node.Marked (record { rule = rule; place = place }) 1; of = Plain element.Variant })
+default_ending known.NotSaid place = None
 
 -- the last node of a value is pushed, and what stands behind it
 pub record PushesAs (wrap : bound.Expr → bound.Expr) (v : Ending) (place : Place) (d e : Drafted) (of : DeclaredType) : Type 0 where

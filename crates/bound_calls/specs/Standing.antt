@@ -1,5 +1,5 @@
 -- Serves the code: what stands on the stack of a pass over the nodes of an expression, beside the pieces of the draft.
-use Rattle.std.specs.Prelude.{◌≡◌, ℕ, zero, suc, ◌+◌, ◌<◌, ◌≤◌, length, take, Bool, true, false, List, [], ◌∷◌, ◌++◌, map, Option, Some, None, option_map, slice_get, if◌then◌else◌}
+use Rattle.std.specs.Prelude.{◌≡◌, ℕ, zero, suc, ◌+◌, ◌<◌, ◌≤◌, ◌==◌, length, take, Bool, true, false, ◌&&◌, List, [], ◌∷◌, ◌++◌, map, Option, Some, None, option_map, slice_get, if◌then◌else◌}
 use Rattle.vba_base.specs.declared.place.Place.{Place}
 use Rattle.vba_values.specs.Types.{Declared}
 use Rattle.vba_values.specs.Types as type
@@ -17,7 +17,7 @@ use Rattle.bound_project.specs.declared.node.ArgumentNames.{ArgumentNames}
 use Rattle.bound_project.specs.declared.node.LateName.{LateName}
 use Rattle.bound_project.specs.declared.node.LateUse.{LateUse}
 use Rattle.bound_project.specs.declared.variable.Variable.{Variable}
-use Rattle.bound_project.specs.View.{declared_view, parameter_view, variable_view}
+use Rattle.bound_project.specs.View.{declarations_view, declared_view, parameter_view, variable_view}
 use Rattle.bound_project.specs.Expressions.{expr, element_value, late_item, not_given, active_sheet, Exprs, also, given_count, Lvalue, operand_type, this, value_place}
 use Rattle.bound_project.specs.Expressions as bound
 use Rattle.bound_project.specs.Lists.{above, exprs_of, given_pieces}
@@ -35,8 +35,9 @@ use Rattle.bound_declarations.specs.constant_values.specs.declared_names.specs.b
 use Rattle.bound_declarations.specs.constant_values.specs.declared_names.specs.binder.specs.Storage.{procedure_number}
 use Rattle.bound_forms.specs.Terms.{Env, Given, routine_term, a_place, a_value, a_function, a_host_member, err_object, err_raise, err_clear, error_word, no_term, expression_of, given_to, listed_values, parameter_named, taken_by, takes, read_of}
 use Rattle.bound_forms.specs.Terms as plain
+use Rattle.bound_forms.specs.ClassDefaults.{declared_in}
 use Rattle.bound_declarations.specs.constant_values.specs.declared_names.specs.binder.specs.Signatures.{reader, parameters_in, call_type}
-use Rattle.bound_forms.specs.ExpressionsBound.{callee, item_of, element_place, argument_of, arguments_rule, may_index, member_takes, wrong_arguments, first_given, function_values, givens, indexed, is_wrong, numbers_of, term_of, operand_of, reference_of, place_told, indexed_type, is_found_late, along_of, late_arguments}
+use Rattle.bound_forms.specs.ExpressionsBound.{callee, item_of, element_place, argument_of, arguments_rule, may_index, member_takes, wrong_arguments, first_given, function_values, givens, indexed, is_wrong, numbers_of, term_of, operand_of, reference_of, place_told, indexed_type, is_found_late, is_host_type, along_of, along_type, along_value, are_places, late_arguments}
 use Rattle.bound_calls.specs.declared.term.Dotted.{Dotted}
 use Rattle.bound_calls.specs.declared.term.Ending.{Ending}
 use Rattle.bound_calls.specs.declared.term.Property.{Property}
@@ -64,6 +65,7 @@ use Rattle.bound_calls.specs.declared.term.Untaken.{Untaken}
 use Rattle.bound_calls.specs.declared.term.Item.{Item}
 use Rattle.bound_calls.specs.declared.term.Item.TheVariants as item
 use Rattle.bound_calls.specs.Passing.{AllTaken}
+use Rattle.class_defaults.specs.Items.{ArePlain}
 use Rattle.bound_calls.specs.Shapes.{IsShaped}
 use Rattle.bound_calls.specs.declared.term.Receiver.{Receiver}
 use Rattle.bound_calls.specs.declared.term.Receiver.TheVariants as receiver
@@ -221,6 +223,7 @@ pub record TreeStands (env : Env) (t : Tables) (x : Tree) (e : Expr) (ps below :
   pub name_is : option_map (λ name. name.now) x.name ≡ name_in e
   pub qualifier_is : QualifierStands env (option_map (λ name. name.now) x.name) x.dotted e ps below
   pub leaf : LeafStands (option_map (λ name. name.now) x.name) ps below
+  pub declared_is : declared_in env.scope ≡ declarations_view x.declared.now
 
 -- a left operand: that of Is is a reference
 abbrev pub left_of : Bool → Env → plain.Term → Place → Option bound.Expr
@@ -294,7 +297,8 @@ pub record ValueIndexed (env : Env) (of : DeclaredType) (place : Place) (x : pla
   pub is : (gs : List Given) (es : Exprs) → numbers_of (operand_of env) gs ≡ Some es → indexed env place (item_of env place x) gs ≡ a_value (element_value whole es) (declared_view of)
   pub on_top : ps ≡ an_expr whole ∷ below
 
--- a place from which arguments lead on as the run says, and a value in which they do, which was pushed
+-- a place from which arguments lead on as the run says, and a value in which they do, which was pushed; one of a class, by
+-- how many of them there are
 pub record PlaceAlong (env : Env) (of : DeclaredType) (lends : Bool) (place : Place) (x : plain.Term) (ps below : List Piece) : Type 0 where
   pub at : Lvalue
   pub whole : Declared
@@ -305,17 +309,37 @@ pub record PlaceAlong (env : Env) (of : DeclaredType) (lends : Bool) (place : Pl
   pub of_is : declared_view of ≡ type.variant
   pub on_top : ps ≡ piece.a_place at ∷ below
 
+pub record PlaceLed (env : Env) (count : ℕ) (of : DeclaredType) (lends : Bool) (place : Place) (x : plain.Term) (ps below : List Piece) : Type 0 where
+  pub at : Lvalue
+  pub whole : Declared
+  pub bounded : Bool
+  pub makes : Bool
+  pub is : x ≡ a_place at whole bounded lends makes
+  pub no_host : is_host_type whole ≡ false
+  pub leads : (gs : List Given) → ArePlain count gs → along_type env (expression_of (read_of makes at) place whole) gs ≡ Some (declared_view of)
+  pub on_top : ps ≡ piece.a_place at ∷ below
+
 pub record ValueAlong (env : Env) (of : DeclaredType) (place : Place) (x : plain.Term) (ps below : List Piece) : Type 0 where
   pub whole : bound.Expr
-  pub is : (gs : List Given) (es : Exprs) → along_of (operand_of env) gs ≡ Some es → indexed env place (item_of env place x) gs ≡ a_value (late_item whole es) type.variant
+  pub is : (gs : List Given) (es : Exprs) → along_of (along_value env) gs ≡ Some es → indexed env place (item_of env place x) gs ≡ a_value (late_item whole es) type.variant
   pub of_is : declared_view of ≡ type.variant
+  pub on_top : ps ≡ an_expr whole ∷ below
+
+pub record ValueLed (env : Env) (count : ℕ) (of : DeclaredType) (place : Place) (x : plain.Term) (ps below : List Piece) : Type 0 where
+  pub whole : bound.Expr
+  pub is : (gs : List Given) (es : Exprs) → ArePlain count gs → along_of (along_value env) gs ≡ Some es → indexed env place (item_of env place x) gs ≡ a_value (late_item whole es) (declared_view of)
   pub on_top : ps ≡ an_expr whole ∷ below
 
 -- the same value, which was pushed as a place: what arguments lead to in it is assigned to
 pub record ValueAsPlace (env : Env) (of : DeclaredType) (place : Place) (x : plain.Term) (ps below : List Piece) : Type 0 where
   pub whole : bound.Expr
-  pub is : (gs : List Given) (es : Exprs) → along_of (operand_of env) gs ≡ Some es → indexed env place (item_of env place x) gs ≡ a_value (late_item whole es) type.variant
+  pub is : (gs : List Given) (es : Exprs) → along_of (along_value env) gs ≡ Some es → indexed env place (item_of env place x) gs ≡ a_value (late_item whole es) type.variant
   pub of_is : declared_view of ≡ type.variant
+  pub on_top : ps ≡ piece.a_place (value_place whole) ∷ below
+
+pub record LedAsPlace (env : Env) (count : ℕ) (of : DeclaredType) (place : Place) (x : plain.Term) (ps below : List Piece) : Type 0 where
+  pub whole : bound.Expr
+  pub is : (gs : List Given) (es : Exprs) → ArePlain count gs → along_of (along_value env) gs ≡ Some es → indexed env place (item_of env place x) gs ≡ a_value (late_item whole es) (declared_view of)
   pub on_top : ps ≡ piece.a_place (value_place whole) ∷ below
 
 abbrev pub TargetStands : Env → Target → DeclaredType → Bool → Place → plain.Term → (ps below : List Piece) → Type 0
@@ -325,6 +349,9 @@ TargetStands env target.Value of lends place x ps below = ValueIndexed env of pl
 TargetStands env target.PlaceAlong of lends place x ps below = PlaceAlong env of lends place x ps below
 TargetStands env target.ValueAlong of lends place x ps below = ValueAlong env of place x ps below
 TargetStands env target.ValueAsPlace of lends place x ps below = ValueAsPlace env of place x ps below
+TargetStands env (target.PlaceLed count) of lends place x ps below = PlaceLed env count of lends place x ps below
+TargetStands env (target.ValueLed count) of lends place x ps below = ValueLed env count of place x ps below
+TargetStands env (target.LedAsPlace count) of lends place x ps below = LedAsPlace env count of place x ps below
 
 -- values that were pushed for arguments without names: each is what the list says of the first argument
 pub record ValueIs (value : plain.Term → Place → Option bound.Expr) (g : Given) (e : bound.Expr) : Type 0 where
@@ -336,15 +363,19 @@ AllListed value [] [] = Unit {0}
 AllListed value (g ∷ gs) (e ∷ es) = ValueIs value g e × AllListed value gs es
 AllListed value gs es = ⊥
 
--- an operand that leads on as the run says, as a Variant takes it
-abbrev pub along_value : Env → plain.Term → Place → Option bound.Expr
-along_value env t place = option_map (given_to type.variant false place) (operand_of env t place)
+-- what leads on as the run says, as a Variant takes it
+abbrev pub along_given : Env → plain.Term → Place → Option bound.Expr
+along_given env t place = option_map (given_to type.variant false place) (along_value env t place)
 
--- what was pushed for arguments: numbers; or what leads on as the run says, where one that isn't written is Missing
+-- what was pushed for arguments: numbers; or what leads on as the run says, where one that isn't written is Missing, which
+-- none is behind an object of a class
 abbrev pub NumbersStand : Env → Target → List Given → List bound.Expr → Type 0
-NumbersStand env target.PlaceAlong gs es = AllListed (along_value env) gs es
-NumbersStand env target.ValueAlong gs es = AllListed (along_value env) gs es
-NumbersStand env target.ValueAsPlace gs es = AllListed (along_value env) gs es
+NumbersStand env target.PlaceAlong gs es = AllListed (along_given env) gs es
+NumbersStand env target.ValueAlong gs es = AllListed (along_given env) gs es
+NumbersStand env target.ValueAsPlace gs es = AllListed (along_given env) gs es
+NumbersStand env (target.PlaceLed count) gs es = AllNumbers (along_given env) gs es
+NumbersStand env (target.ValueLed count) gs es = AllNumbers (along_given env) gs es
+NumbersStand env (target.LedAsPlace count) gs es = AllNumbers (along_given env) gs es
 NumbersStand env other gs es = AllNumbers (operand_of env) gs es
 
 -- what is indexed, and the numbers that were pushed
@@ -506,6 +537,7 @@ abbrev pub values_before : Refuser → ℕ
 values_before (refuser.Value of) = 1
 values_before (refuser.Called of) = 1
 values_before (refuser.Member m) = 1
+values_before (refuser.Led rule count) = 1
 values_before r = 0
 
 abbrev pub behind_values : List bound.Expr → Exprs → Exprs
@@ -521,6 +553,7 @@ refused_rule t (refuser.Called of) (g ∷ gs) = if may_index (declared_view of) 
 refused_rule t (refuser.Member m) gs = if member_takes (member_is t m) gs then None else arguments_rule (member_is t m)
 refused_rule t refuser.Bare [] = None
 refused_rule t refuser.Bare (g ∷ gs) = Some 25
+refused_rule t (refuser.Led rule count) gs = if are_places gs && (length gs == count) then Some rule else None
 
 -- what doesn't take its arguments, and the values that were pushed of it
 pub record UntakenStands (env : Env) (t : Tables) (x : Untaken) (e : Expr) (ps below : List Piece) : Type 0 where

@@ -4,11 +4,12 @@ ghost use Rattle.bound_calls.specs.Calls.{EndsCall, PushesReceiver, call_kind};
 ghost use Rattle.bound_calls.specs.Taking.{CallsAt, CallsBare, CallsRoutine, LacksArguments};
 
 use crate::arguments::{nowhere, pass_rest, sum};
-use crate::shapes::{broken_ending, takes_none};
+use crate::shapes::broken_ending;
 use crate::take::{no_object, push_node};
 use crate::term::{Ending, Passed, Receiver, Routine};
 use bound_declarations::NotYet;
 use bound_project::{DeclaredType, Draft, NodeKind, Parameter};
+use class_defaults::takes_none;
 use std::alloc::Global;
 use vba_base::{NoMemory, OrMemory, Place};
 

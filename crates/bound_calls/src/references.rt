@@ -4,21 +4,22 @@
 ghost use Rattle.std.specs.Prelude.{◌≡◌, ◌≢◌, ◌||◌, IfOk, IfSome, Some, true};
 ghost use Rattle.bound_project.specs.DraftView.{draft_view};
 ghost use Rattle.bound_project.specs.Drafts.{NodeNamed};
-ghost use Rattle.bound_project.specs.View.{declared_view};
+ghost use Rattle.bound_project.specs.View.{declarations_view, declared_view};
 ghost use Rattle.bound_declarations.specs.constant_values.specs.declared_names.specs.binder.specs.Types.{is_object};
-ghost use Rattle.bound_forms.specs.ExpressionsBound.{default_rule, if_any, is_host_type, is_item_name, kind_by_type, kind_of_object, may_give_object, plain_operand, has_default, is_of_class, is_reference_type};
-ghost use Rattle.bound_calls.specs.References.{DefaultBreaks, EndingGives, PushesAs, PushesGiven, PushesIfAny, PushesReference, TakesGiven, TakesReference, gives_way, default_node, is_referring, is_typed_kind, kind_gives, may_refer, refers, instance_at, is_of_host_kind, IsFoundLate, IsInstance, ends_known, known_instance, known_object, may_be_instance_by, unknown_may};
+ghost use Rattle.bound_forms.specs.ExpressionsBound.{default_rule, if_any, is_host_type, is_item_name, kind_by_type, kind_of_object, may_give_object, plain_operand, is_of_class, is_reference_type};
+ghost use Rattle.class_defaults.specs.Known.{known_view};
+ghost use Rattle.bound_calls.specs.References.{DefaultBreaks, DefaultIs, EndingGives, PushesAs, PushesGiven, PushesIfAny, PushesReference, TakesGiven, TakesReference, by_rule, gives_way, default_ending, is_referring, is_typed_kind, kind_gives, may_refer, refers, instance_at, is_of_host_kind, IsFoundLate, IsInstance, ends_known, known_instance, known_object, may_be_instance_by, unknown_may};
 ghost use Rattle.bound_calls.specs.Standing.{TermNamed};
 ghost use Rattle.bound_calls.specs.Steps.{PushesOperand};
 
 use crate::arguments::is_variant;
 use crate::calls::routine_ending;
-use crate::shapes::takes_none;
 use crate::take::{member_ending, push_node, push_sheet, read_kind, value_ending};
 use crate::term::{Ending, Term, Tree};
-use bound_declarations::NotYet;
 use bound_declarations::constant_values::declared_names::{is_object, is_word};
-use bound_project::{DeclaredType, Draft, ElementType, ErrMember, NodeKind};
+use bound_declarations::{NotYet, class_in};
+use bound_project::{Declarations, DeclaredType, Draft, ElementType, ErrMember, NodeKind};
+use class_defaults::{Known, default_read, known_variant, takes_none};
 use std::alloc::Global;
 use vba_base::{NoMemory, OrMemory, Place, Refusal};
 use vba_lib::LibraryFunction;
@@ -146,7 +147,7 @@ pub fn instance_of(has_class: bool, draft: &Draft, ending: Ending) -> Option<boo
 }
 
 /// Is a type that of a class?
-fn is_of_class(of: DeclaredType) -> bool
+pub fn is_of_class(of: DeclaredType) -> bool
     ensures { result ≡ is_of_class (declared_view of) }
 {
     match of {
@@ -229,16 +230,6 @@ fn type_rule(of: DeclaredType) -> Option<u8>
     }
 }
 
-/// Is the default member of an object of a type built? That of a class isn't.
-fn has_default(of: DeclaredType) -> bool
-    ensures { result ≡ has_default (declared_view of) }
-{
-    match of {
-        DeclaredType::Plain(ElementType::Class(_)) => false,
-        _ => true,
-    }
-}
-
 /// Is a node the last one of a value, and none of an object that is always there?
 pub fn is_typed_kind(kind: NodeKind) -> bool
     ensures { result ≡ is_typed_kind kind }
@@ -275,9 +266,6 @@ pub fn is_typed_kind(kind: NodeKind) -> bool
 fn default_rule(ending: Ending) -> Result<Option<u8>, OrMemory<NotYet>>
     ensures { IfOk result (λ rule. DefaultBreaks ending rule) }
 {
-    if !has_default(ending.of) {
-        return Err(OrMemory::Fault(NotYet));
-    }
     if is_typed_kind(ending.kind) {
         return Ok(type_rule(ending.of));
     }
@@ -287,16 +275,47 @@ fn default_rule(ending: Ending) -> Result<Option<u8>, OrMemory<NotYet>>
     }
 }
 
-/// The node with which an object gives way to the value of its default member, or is marked as what breaks a rule.
-fn default_kind(rule: Option<u8>, place: Place) -> NodeKind
-    ensures { result ≡ default_node rule place }
+/// What is known by the rule that an object breaks: where it breaks none the run says of what type the value is.
+fn known_by(rule: Option<u8>) -> Known
+    ensures { known_view result ≡ by_rule rule }
 {
     match rule {
-        None => NodeKind::DefaultOf,
-        Some(rule) => NodeKind::Marked {
-            broken: Refusal { rule, place },
-            values: 1,
-        },
+        None => known_variant(),
+        Some(rule) => Known::Breaks(rule),
+    }
+}
+
+/// What is known of the value to which an object gives way whose last node isn't pushed yet.
+fn default_known(declared: &Declarations, ending: Ending) -> Result<Known, OrMemory<NotYet>>
+    ensures { IfOk result (λ found. DefaultIs (declarations_view declared.now) ending found) }
+{
+    match class_in(ending.of) {
+        Some(class) => Ok(default_read(declared, class)),
+        None => {
+            let rule = default_rule(ending)?;
+            Ok(known_by(rule))
+        }
+    }
+}
+
+/// The node with which an object gives way to the value of its default member, or is marked as what breaks a rule, and the
+/// type that then stands there; none where nothing is said.
+fn default_ending(found: Known, place: Place) -> Option<Ending>
+    ensures { result ≡ default_ending found place }
+{
+    match found {
+        Known::Type(of) => Some(Ending {
+            kind: NodeKind::DefaultOf,
+            of,
+        }),
+        Known::Breaks(rule) => Some(Ending {
+            kind: NodeKind::Marked {
+                broken: Refusal { rule, place },
+                values: 1,
+            },
+            of: DeclaredType::Plain(ElementType::Variant),
+        }),
+        Known::NotSaid => None,
     }
 }
 
@@ -418,12 +437,13 @@ fn push_default<'a>(
     ensures { IfOk result (λ of. PushesOperand tree.entry (draft_view draft.old) (draft_view draft.new) of) }
 {
     let ending = reference_ending(alloc, draft, tree.term, tree.place)?;
-    let rule = default_rule(ending)?;
+    let found = default_known(tree.declared, ending)?;
+    let Some(behind) = default_ending(found, tree.place) else {
+        return Err(OrMemory::Fault(NotYet));
+    };
     push_node(draft, ending.kind, ending.of, tree.place)?;
-    let variant = DeclaredType::Plain(ElementType::Variant);
-    let behind = default_kind(rule, tree.place);
-    push_node(draft, behind, variant, tree.place)?;
-    Ok(Some(variant))
+    push_node(draft, behind.kind, behind.of, tree.place)?;
+    Ok(Some(behind.of))
 }
 
 /// Pushes the number of Err.
@@ -528,19 +548,20 @@ pub fn push_operand<'a>(
     }
 }
 
-/// An expression as it is, a value or a reference, but for its last node.
+/// A term at a place as it is, a value or a reference, but for its last node.
 pub fn given_ending<'a>(
     alloc: Global,
     draft: &mut Draft,
-    tree: Tree<'a>,
+    term: Term<'a>,
+    place: Place,
 ) -> Result<Ending, OrMemory<NotYet>>
-    requires { TermNamed (draft_view draft.old).tables tree.term }
-    ensures { IfOk result (λ ending. TakesGiven tree.entry.term tree.entry.place (draft_view draft.old) (draft_view draft.new) ending) }
+    requires { TermNamed (draft_view draft.old).tables term }
+    ensures { IfOk result (λ ending. TakesGiven term.entry place (draft_view draft.old) (draft_view draft.new) ending) }
 {
-    if refers(tree.term) {
-        return reference_ending(alloc, draft, tree.term, tree.place);
+    if refers(term) {
+        return reference_ending(alloc, draft, term, place);
     }
-    let Some(ending) = value_ending(alloc, draft, tree.term, tree.place)? else {
+    let Some(ending) = value_ending(alloc, draft, term, place)? else {
         return Err(OrMemory::Fault(NotYet));
     };
     Ok(ending)
@@ -555,7 +576,7 @@ pub fn push_given<'a>(
     requires { TermNamed (draft_view draft.old).tables tree.term }
     ensures { IfOk result (λ of. PushesGiven tree.entry (draft_view draft.old) (draft_view draft.new) of) }
 {
-    let ending = given_ending(alloc, draft, tree)?;
+    let ending = given_ending(alloc, draft, tree.term, tree.place)?;
     push_node(draft, ending.kind, ending.of, tree.place)?;
     Ok(ending.of)
 }
@@ -570,6 +591,6 @@ pub fn push_if_any<'a>(
     requires { TermNamed (draft_view draft.old).tables tree.term }
     ensures { IfOk result (λ of. PushesIfAny tree.entry (draft_view draft.old) (draft_view draft.new) of) }
 {
-    let ending = given_ending(alloc, draft, tree)?;
+    let ending = given_ending(alloc, draft, tree.term, tree.place)?;
     push_ending_if_any(draft, ending, tree.place)
 }

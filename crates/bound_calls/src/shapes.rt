@@ -14,30 +14,12 @@ use crate::stack::{put_item, take_item};
 use crate::take::push_node;
 use crate::term::{Ending, Item, Shape};
 use bound_project::{DeclaredType, Draft, ElementType, NodeKind, Parameter};
+use class_defaults::{may_lack, takes_none};
 use std::alloc::Global;
 use vba_base::{NoMemory, Place, Refusal};
 use vba_words::Identifier;
 
-/// May a parameter be given nothing?
-fn may_lack(parameter: &Parameter) -> bool
-    ensures { result ≡ plain.may_lack (parameter_view parameter.now) }
-{
-    parameter.is_param_array || parameter.default.is_some()
-}
-
-/// May each of these parameters be given nothing?
-fn all_may_lack(parameters: &[Parameter]) -> bool
-    ensures { result ≡ list_all plain.may_lack (map parameter_view parameters.now) }
-{
-    for parameter in parameters {
-        if !may_lack(parameter) {
-            return false;
-        }
-    }
-    true
-}
-
-/// The same of parameters, each by itself.
+/// May each of these parameters be given nothing, each by itself?
 fn left_may_lack(parameters: &[&Parameter]) -> bool
     ensures { result ≡ list_all plain.may_lack (map (λ p. parameter_view p.now) parameters.now) }
 {
@@ -163,14 +145,7 @@ pub fn takes<'a>(
         }
         left = others;
     }
-    Ok(all_may_lack(left))
-}
-
-/// Do parameters take no arguments?
-pub fn takes_none(parameters: &[Parameter]) -> bool
-    ensures { result ≡ list_all plain.may_lack (map parameter_view parameters.now) }
-{
-    all_may_lack(parameters)
+    Ok(takes_none(left))
 }
 
 /// What breaks a rule: so many values that were pushed, but for the last node.

@@ -1,6 +1,6 @@
 use bound_declarations::constant_values::declared_names::{Space, Written};
 use bound_project::{
-    ArgumentNames, DeclaredType, LateName, LateUse, NodeKind, Parameter, Variable,
+    ArgumentNames, Declarations, DeclaredType, LateName, LateUse, NodeKind, Parameter, Variable,
 };
 use vba_base::Place;
 use vba_lib::LibraryFunction;
@@ -103,13 +103,14 @@ pub struct Dotted<'a> {
 }
 
 /// An expression: the place where it is told, the name that it is, or else the two names that it is, where the first
-/// one says where the second one is looked up, and what it is.
+/// one says where the second one is looked up, what it is, and all that its project declares.
 #[derive(Clone, Copy)]
 pub struct Tree<'a> {
     pub place: Place,
     pub name: Option<&'a Identifier>,
     pub dotted: Option<Dotted<'a>>,
     pub term: Term<'a>,
+    pub declared: &'a Declarations,
 }
 
 /// A left operand that was pushed: its type; none where it isn't bound. The left one of Is was pushed as a reference.
@@ -201,6 +202,10 @@ pub enum Target {
     PlaceAlong,
     ValueAlong,
     ValueAsPlace,
+    /// The same three behind an object of a class, for so many arguments that are all written, without names.
+    PlaceLed(u32),
+    ValueLed(u32),
+    LedAsPlace(u32),
 }
 
 /// A place or a value whose numbers in brackets are read: the place of its first token, what is indexed, the type of an
@@ -222,7 +227,8 @@ pub struct Shape<'a> {
 }
 
 /// What doesn't take the arguments that are read: a procedure with these parameters; a value of a type, one that a property
-/// gave which is called without arguments, or a member and its object, which were pushed; and what takes none at all.
+/// gave which is called without arguments, or a member and its object, which were pushed; what takes none at all; and an
+/// object of a class, which was pushed, behind which so many arguments that are all written, without names, break a rule.
 #[derive(Clone, Copy)]
 pub enum Refuser<'a> {
     Procedure(&'a [Parameter]),
@@ -230,6 +236,7 @@ pub enum Refuser<'a> {
     Called(DeclaredType),
     Member(HostMember),
     Bare,
+    Led { rule: u8, count: u32 },
 }
 
 /// What doesn't take its arguments, and the place of its first token. Each argument stands above it.

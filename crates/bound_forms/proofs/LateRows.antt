@@ -1,11 +1,11 @@
 -- Worked rows: members that the run finds, what arguments index in the run, and members of the host in a project with a
 -- class, by what they are bound to and what they then tell.
-use Rattle.std.specs.Prelude.{◌≡◌, ℕ, true, false, List, [], ◌∷◌, None, refl, codes}
+use Rattle.std.specs.Prelude.{◌≡◌, ℕ, false, List, [], ◌∷◌, None, refl, codes}
 use Rattle.std.specs.Fmt.{digits}
 use Rattle.caseless.proofs.Computing.{caseless}
 use Rattle.vba_base.specs.Fold.{folded}
 use Rattle.vba_values.specs.Types as type
-use Rattle.bound_project.specs.Expressions.{Variable, Expr, ByName, load, default_of, enumerated, variable, element_along, late_field, late_member, late_item, new_object, none_given, place_given, expr_given, no_exprs, also}
+use Rattle.bound_project.specs.Expressions.{Variable, ByName, load, default_of, enumerated, variable, element_along, late_field, late_member, none_given, place_given, expr_given, no_exprs, also}
 use Rattle.bound_project.specs.Statements.{Statement, evaluate, assign_late, set_late, assign_element, set_element, assign_through, for_each, next_each, redim, resize, no_resizes}
 use Rattle.bound_forms.proofs.Reading.{bound_of}
 use Rattle.bound_forms.proofs.BoundRows.{statements_of, e, n, at, v, show, jumping}

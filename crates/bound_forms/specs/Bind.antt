@@ -5,8 +5,6 @@ use Rattle.std.specs.List.{list_all}
 use Rattle.vba_base.specs.declared.place.Place.{Place}
 use Rattle.vba_base.specs.declared.place.Refusal.{Refusal}
 use Rattle.vba_lexer.specs.declared.number.TypeSuffix.{TypeSuffix}
-use Rattle.vba_values.specs.Types.{Declared}
-use Rattle.vba_values.specs.Types as type
 use Rattle.vba_tree.specs.Tree.{DeclaredType, named, fixed_text, TypeClause, NewTypeClause, Variable, Parameter, ResultType, variables, simple, type_member, procedure_header, event_line}
 use Rattle.vba_module.specs.Parts.{Part, statement, whole_line, place_of}
 use Rattle.vba_module.specs.Headers.{all_of, parameters_of}

@@ -17,7 +17,7 @@ use Rattle.vba_meaning.specs.ByName.{parameters_given}
 use Rattle.bound_project.specs.Expressions.{Storage, err_number, err_source, err_description, Node, constant, load, element_value, field_value, err_value, default_of, host_object, active_sheet, host_member, named_member, late_member, late_item, marked, ByName, Lvalue, variable, item, element, element_along, field, kept_place, Exprs, no_exprs, also, none_given, place_given, expr_given, load_made, this, new_object, method, object_field, as_new}
 use Rattle.bound_project.specs.Expressions as bound
 use Rattle.vba_values.specs.declared.object.HostRef.{HostRef}
-use Rattle.bound_project.specs.Project.{Declaration, UserType, no_name, nowhere}
+use Rattle.bound_project.specs.Project.{Declaration, Declarations, UserType, no_name, nowhere}
 use Rattle.binder.specs.Options.{or_else, from_two, from_three}
 use Rattle.binder.specs.Sources.{base_of}
 use Rattle.binder.specs.Declarations.{Written, What, a_variable, a_constant, a_member, a_procedure, Entry, Own, the_result, a_parameter, a_local_constant, Local, a_local}
@@ -27,6 +27,7 @@ use Rattle.binder.specs.Constants.{is_variant, literal_meant, value_type, operat
 use Rattle.binder.specs.Storage.{parameter_type, result_type, own_declaration, declared_variable, user_types, module_storage, own_storage, procedure_number, has_bounds}
 use Rattle.bound_forms.specs.Terms.{Within, Env, HostMember, Term, a_place, a_value, a_routine, a_function, a_host_member, err_object, err_raise, err_clear, error_word, no_term, expression_of, broken_rule, broken_value, given_to, is_user_type, member_read, value_with, Given, listed_values, bound_arguments, has_names, takes, given_by_name, a_method, read_of, value_in}
 use Rattle.binder.specs.Signatures.{is_get, reader, parameters_in, call_type}
+use Rattle.bound_forms.specs.ClassDefaults.{Known, known, breaks, not_said, class_led, declared_in, default_read}
 use Rattle.vba_expression.specs.declared.operator.BinaryOperator.TheVariants as operator
 use Rattle.vba_lib.specs.declared.function.LibraryFunction.TheVariants as function
 use Rattle.vba_values.specs.declared.object.HostRef.TheVariants as host
@@ -143,12 +144,25 @@ abbrev pub along_of : (Term → Place → Option bound.Expr) → List Given → 
 along_of value [] = None
 along_of value gs = if has_names gs then None else listed_values (λ t place. option_map (given_to type.variant false place) (value t place)) gs
 
+-- of which type arguments lead to something that the run finds: behind an object of a class what its default member says
+abbrev pub type_known : Known → Option Declared
+type_known (known of) = Some of
+type_known other = None
+
+abbrev pub along_type : Env → bound.Expr → List Given → Option Declared
+along_type env (bound.expr node place (type.class number) operand) gs = type_known (class_led (declared_in env.scope) number gs)
+along_type env e gs = if is_found_late env e then Some type.variant else None
+
 -- the value of a call whose arguments index what it gives, and of one that takes them
-abbrev pub indexed_value : (value : Term → Place → Option bound.Expr) → Env → Place → Node → Declared → List Given → Term
-indexed_value value env place node of gs =
-    if is_found_late env (expression_of node place of)
-    then if_there (option_map (λ es. a_value (late_item (expression_of node place of) es) type.variant) (along_of value gs))
-    else with_type (indexed_type env (expression_of node place of)) (numbers_of value gs) (λ u xs. a_value (element_value (expression_of node place of) xs) u)
+abbrev pub element_of_value : (value : Term → Place → Option bound.Expr) → Env → bound.Expr → List Given → Term
+element_of_value value env e gs = with_type (indexed_type env e) (numbers_of value gs) (λ u xs. a_value (element_value e xs) u)
+
+abbrev pub indexed_value : (number_of along : Term → Place → Option bound.Expr) → Env → Place → Node → Declared → List Given → Term
+indexed_value number_of along env place node of gs = at (along_type env (expression_of node place of) gs)
+  where
+    at : Option Declared → Term
+    at None = element_of_value number_of env (expression_of node place of) gs
+    at (Some u) = if_there (option_map (λ es. a_value (late_item (expression_of node place of) es) u) (along_of along gs))
 
 -- a procedure of a standard module, and of an object
 abbrev pub call_node : Option bound.Expr → (procedure : ℕ) → bound.Args → Node
@@ -168,18 +182,18 @@ abbrev pub node_or : Term → (Node → Declared → Term) → Term
 node_or (a_value node of) term = term node of
 node_or other term = no_term
 
-abbrev pub call_with : (value : Declared → Term → Place → Option bound.Expr) → (number : Term → Place → Option bound.Expr) → Env → Place → List Given → Option bound.Expr → Space → ℕ → Written → Term
-call_with value number_of env place gs base space number p = if_there (option_map called_as (reader env.scope space number p))
+abbrev pub call_with : (value : Declared → Term → Place → Option bound.Expr) → (number_of along : Term → Place → Option bound.Expr) → Env → Place → List Given → Option bound.Expr → Space → ℕ → Written → Term
+call_with value number_of along env place gs base space number p = if_there (option_map called_as (reader env.scope space number p))
   where
     called_as : ℕ × Written → Term
     called_as f =
         if indexes_value f.1 gs
-        then node_or (call_value env base space f.0 f.1 (Some bound.no_args)) (λ node of. indexed_value number_of env place node of gs)
+        then node_or (call_value env base space f.0 f.1 (Some bound.no_args)) (λ node of. indexed_value number_of along env place node of gs)
         else call_value env base space f.0 f.1 (bound_arguments value (parameters_in env.scope space f.1) gs)
 
 -- a call without arguments
 abbrev pub bare_call : Env → Option bound.Expr → Space → ℕ → Written → Term
-bare_call env base space number p = call_with (λ of t place. None) (λ t place. None) env p.place [] base space number p
+bare_call env base space number p = call_with (λ of t place. None) (λ t place. None) (λ t place. None) env p.place [] base space number p
 
 -- the object whose procedure is called stands before its arguments
 abbrev pub behind_base : Option bound.Expr → Exprs → Exprs
@@ -278,14 +292,16 @@ abbrev pub given_way : Option ℕ → Place → bound.Expr → bound.Expr
 given_way None place e = expression_of (default_of e) place type.variant
 given_way (Some rule) place e = broken_rule rule place (also e no_exprs)
 
--- that of a class isn't built
-abbrev pub has_default : Declared → Bool
-has_default (type.class number) = false
-has_default other = true
+-- the same of an object of a class, whose default member is known before the run
+abbrev pub class_given_way : Known → Place → bound.Expr → Option bound.Expr
+class_given_way (known of) place e = Some (expression_of (default_of e) place of)
+class_given_way (breaks rule) place e = Some (broken_rule rule place (also e no_exprs))
+class_given_way not_said place e = None
 
-abbrev pub default_value : Place → bound.Expr → Option bound.Expr
-default_value place (bound.expr node at of operand) =
-    if has_default of then Some (given_way (default_rule (host_kind node of)) place (bound.expr node at of operand)) else None
+abbrev pub default_value : Declarations → Place → bound.Expr → Option bound.Expr
+default_value d place (bound.expr node at (type.class number) operand) =
+    class_given_way (default_read d number) place (bound.expr node at (type.class number) operand)
+default_value d place (bound.expr node at of operand) = Some (given_way (default_rule (host_kind node of)) place (bound.expr node at of operand))
 
 -- an expression of a Variant's type that may be an object
 abbrev pub has_object : Node → Declared → Bool
@@ -299,7 +315,7 @@ plain_operand (bound.expr node at of operand) =
 -- a term as an operand: Err is its number, and another object gives way to the value of its default member
 abbrev pub operand_of : Env → Term → Place → Option bound.Expr
 operand_of env err_object place = Some (expression_of (err_value err_number) place type.long)
-operand_of env t place = or_else (option_map plain_operand (value_of env t place)) (option_and_then (default_value place) (reference_of env t place))
+operand_of env t place = or_else (option_map plain_operand (value_of env t place)) (option_and_then (default_value (declared_in env.scope) place) (reference_of env t place))
 
 -- a term as an argument for a parameter: a Variant and a variable of an object type take an object as it is
 abbrev pub taken_for : Env → Declared → Term → Place → Option bound.Expr
@@ -659,15 +675,31 @@ member_called env e m gs =
 abbrev pub host_called : Env → bound.Expr → HostMember → List Given → Term
 host_called env e m gs = if takes_arguments m (length gs) then if_there (option_map (λ node. a_value node m.of) (member_called env e m gs)) else no_term
 
+-- an argument that leads on in the run: a default member may take an object of a class as it is, so one isn't built here
+abbrev pub gives_class : Option bound.Expr → Bool
+gives_class None = false
+gives_class (Some e) = is_of_class (bound.operand_type e)
+
+abbrev pub along_value : Env → Term → Place → Option bound.Expr
+along_value env t place = if gives_class (given_as env t place) then None else operand_of env t place
+
+-- what arguments in brackets make of a place
+abbrev pub element_of_place : Env → bound.Expr → Lvalue → (lends : Bool) → List Given → Term
+element_of_place env e x lends gs = with_type (indexed_type env e) (numbers_of (operand_of env) gs) (λ u es. a_place (element_place x es) u false lends false)
+
+abbrev pub indexed_place : Env → bound.Expr → Lvalue → (lends : Bool) → List Given → Term
+indexed_place env e x lends gs = at (along_type env e gs)
+  where
+    at : Option Declared → Term
+    at None = element_of_place env e x lends gs
+    at (Some u) = if_there (option_map (λ es. a_place (element_along x es) u false lends false) (along_of (along_value env) gs))
+
 -- what arguments in brackets make of a term, where it takes them
 abbrev pub taken_by_term : Env → Place → Term → List Given → Term
-taken_by_term env place (a_place x of bounded lends makes) gs =
-    if is_found_late env (expression_of (read_of makes x) place of)
-    then if_there (option_map (λ es. a_place (element_along x es) type.variant false lends false) (along_of (operand_of env) gs))
-    else with_type (indexed_type env (expression_of (read_of makes x) place of)) (numbers_of (operand_of env) gs) (λ u es. a_place (element_place x es) u false lends false)
-taken_by_term env place (a_value node of) gs = indexed_value (operand_of env) env place node of gs
-taken_by_term env place (a_routine space number p) gs = call_with (argument_of env) (operand_of env) env place gs None space number p
-taken_by_term env place (a_method base space number p) gs = call_with (argument_of env) (operand_of env) env place gs (Some base) space number p
+taken_by_term env place (a_place x of bounded lends makes) gs = indexed_place env (expression_of (read_of makes x) place of) x lends gs
+taken_by_term env place (a_value node of) gs = indexed_value (operand_of env) (along_value env) env place node of gs
+taken_by_term env place (a_routine space number p) gs = call_with (argument_of env) (operand_of env) (along_value env) env place gs None space number p
+taken_by_term env place (a_method base space number p) gs = call_with (argument_of env) (operand_of env) (along_value env) env place gs (Some base) space number p
 taken_by_term env place (a_function f text_form base) gs = function_called env place f text_form base gs
 taken_by_term env place (a_host_member e m) gs = host_called env e m gs
 taken_by_term env place other gs = no_term
@@ -684,7 +716,13 @@ may_index (type.array_of of) gs = are_places gs
 may_index type.variant gs = true
 may_index of gs = is_object of
 
+abbrev pub wrong_led : Env → Place → bound.Expr → Known → List Given → Term
+wrong_led env place e (breaks rule) gs = wrong_arguments env place rule (also e) gs
+wrong_led env place e other gs = no_term
+
 abbrev pub wrong_index : Env → Place → Node → Declared → List Given → Term
+wrong_index env place node (type.class number) gs =
+    wrong_led env place (expression_of node place (type.class number)) (class_led (declared_in env.scope) number gs) gs
 wrong_index env place node of gs = if may_index of gs then no_term else wrong_arguments env place 25 (also (expression_of node place of)) gs
 
 -- a procedure, or the value of a property that takes none

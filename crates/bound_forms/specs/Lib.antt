@@ -1,4 +1,5 @@
 pub mod Terms
+pub mod ClassDefaults
 pub mod ExpressionsBound
 pub mod StatementsBound
 pub mod Bind

@@ -36,7 +36,9 @@ use Rattle.binder.specs.Types.{written_type, is_object}
 use Rattle.binder.specs.Numbering.{count, count_list, simple_count, here, an_arm, behind_block, behind_kind, Opened, Standing, sought_behind}
 use Rattle.bound_forms.specs.Terms.{Within, Env, HostMember, Term, a_place, a_value, a_routine, a_host_member, err_object, err_raise, err_clear, error_word, no_term, expression_of, broken_rule, is_user_type, given_to, Given, bound_arguments, has_names, takes, given_by_name, a_method, read_of, routine_term}
 use Rattle.binder.specs.Signatures.{is_property, writer, parameters_in, setter}
-use Rattle.bound_forms.specs.ExpressionsBound.{bare_call, HostKind, sheets, collection, is_item_name, host_kind, default_rule, member_takes, arguments_rule, given_as, argument_of, has_object, mark_members, item_of, late_arguments, is_called_late, member_called, takes_arguments, indexed, callee, term_of, givens, bound_as_given, bound_operand, place_told, may_be_instance, is_found_late, behind_base, variant_arguments}
+use Rattle.bound_forms.specs.ExpressionsBound.{bare_call, HostKind, sheets, collection, is_item_name, host_kind, default_rule, member_takes, arguments_rule, given_as, argument_of, has_object, mark_members, item_of, late_arguments, is_called_late, member_called, takes_arguments, indexed, callee, term_of, givens, bound_as_given, bound_operand, place_told, may_be_instance, is_found_late, behind_base, variant_arguments, is_of_class}
+use Rattle.binder.specs.Classes.{class_in}
+use Rattle.bound_forms.specs.ClassDefaults.{Known, known, breaks, not_said, class_let, class_set, class_written, declared_in}
 use Rattle.binder.specs.EventTables.{declared_events}
 use Rattle.binder.specs.Blocks.{label_number, next_number, header_of}
 use Rattle.vba_values.specs.declared.types.OpKind.TheVariants as op
@@ -181,16 +183,24 @@ write_rule (Some sheets) = Some 27
 write_rule (Some collection) = Some 27
 write_rule kind = default_rule kind
 
--- of an Object or a Variant the run decides, and the default member of an object of a class may be written through others; what
--- is declared as of a class isn't built
+-- of an Object or a Variant the run decides, and the default member of an object of a class may be written through others
+abbrev pub written_through : Env → (target v : bound.Expr) → Action
+written_through env target v = if may_be_instance env target then to.assign_through target v else to.assign_default target v
+
 abbrev pub written_or_broken : Env → Option ℕ → Place → (target : bound.Expr) → Declared → bound.Expr → Option Action
 written_or_broken env (Some rule) place target of v = Some (broken_target rule place v (also target no_exprs))
 written_or_broken env None place target of v =
-    if not (has_written_default of) then None
-    else if may_be_instance env target then Some (to.assign_through target v)
-    else Some (to.assign_default target v)
+    if has_written_default of then Some (written_through env target v) else None
+
+-- what is declared as of a class, whose default member is known before the run
+abbrev pub class_written_or_broken : Env → Known → Place → (target v : bound.Expr) → Option Action
+class_written_or_broken env (known of) place target v = Some (written_through env target v)
+class_written_or_broken env (breaks rule) place target v = Some (broken_target rule place v (also target no_exprs))
+class_written_or_broken env not_said place target v = None
 
 abbrev pub default_written : Env → Place → Node → Declared → bound.Expr → Option Action
+default_written env place node (type.class number) v =
+    class_written_or_broken env (class_written (declared_in env.scope) number) place (expression_of node place (type.class number)) v
 default_written env place node of v = written_or_broken env (write_rule (host_kind node of)) place (expression_of node place of) of v
 
 -- a member of an object is written: one that can be, or the default member of the object that it gives, as of an item of
@@ -254,11 +264,12 @@ abbrev pub not_assignable : Place → bound.Expr → Node → Declared → Actio
 not_assignable place v node of = broken_target 27 place v (also (expression_of node place of) no_exprs)
 
 -- an item of a value that no variable has: of an array of objects the default member of the element is written, and else
--- the run decides whether there is an array or an object; of another value the default member is written
+-- the run decides whether there is an array or an object; of another value the default member is written. S27: Me
 abbrev pub value_written : Env → Place → bound.Expr → Node → Declared → Option Action
-value_written env place v (late_item e es) of = Some (to.assign_element (value_place e) es v)
+value_written env place v (late_item e es) of = if is_of_class (bound.operand_type e) then None else Some (to.assign_element (value_place e) es v)
 value_written env place v (element_value e es) of = if is_object of then default_written env place (element_value e es) of v else Some (to.assign_item e es v)
 value_written env place v (bound.library f text_form es compare base) of = Some (not_assignable place v (bound.library f text_form es compare base) of)
+value_written env place v bound.this of = Some (not_assignable place v bound.this of)
 value_written env place v node of =
     if is_object of || has_object node of then default_written env place node of v
     else if is_unassignable node then Some (not_assignable place v node of)
@@ -331,11 +342,39 @@ target_of_call env e = term_of env e
 abbrev pub is_no_target : Env → Expr → Bool
 is_no_target env e = is_sub (target_of_call env e) || is_param_array env e
 
+-- an object of a class, by its class
+abbrev pub class_of_term : Term → Option ℕ
+class_of_term (a_place x of bounded lends makes) = class_in of
+class_of_term (a_value node of) = class_in of
+class_of_term t = None
+
+-- what breaks a rule with its object and its arguments
+abbrev pub broken_led : Env → (rule : ℕ) → Place → List Given → (object v : bound.Expr) → Option Action
+broken_led env rule place gs object v = option_map (λ es. broken_target rule place v (also object es)) (variant_arguments env gs)
+
+-- what arguments behind an object of a class lead to takes a value
+abbrev pub element_assigned : Term → bound.Expr → Option Action
+element_assigned (a_place x of bounded lends makes) v = Some (place_assigned x v)
+element_assigned (a_value (late_item e es) of) v = Some (to.assign_element (value_place e) es v)
+element_assigned t v = None
+
+abbrev pub led_assigned : Env → Known → Place → Term → List Given → bound.Expr → Option Action
+led_assigned env (known of) place t gs v = element_assigned (indexed env place t gs) v
+led_assigned env (breaks rule) place t gs v = option_and_then (λ object. broken_led env rule place gs object v) (given_as env t place)
+led_assigned env not_said place t gs v = None
+
+abbrev pub index_assigned : Env → Place → Term → List Given → bound.Expr → Option Action
+index_assigned env place t gs v = at (class_of_term t)
+  where
+    at : Option ℕ → Option Action
+    at None = assigned env place v [] (indexed env place t gs)
+    at (Some number) = led_assigned env (class_let (declared_in env.scope) number gs) place t gs v
+
 abbrev pub written_to : Env → Expr → bound.Expr → Option Action
 written_to env (index base left args right) v =
     let t = target_before env base in
     if takes_value env t then assigned env (place_told base) v (givens env args) t
-    else assigned env (place_told base) v [] (indexed env (place_told base) t (givens env args))
+    else index_assigned env (place_told base) t (givens env args) v
 written_to env e v = assigned env (place_told e) v [] (term_of env e)
 
 abbrev pub assigned_to : Env → Expr → bound.Expr → Option Action
@@ -356,8 +395,8 @@ given_to_term t place v = v
 
 -- what arguments index as the run says: a Variant, and what may be an object of a class
 abbrev pub is_indexed_late : Env → Place → Term → Bool
-is_indexed_late env place (a_place x of bounded lends makes) = is_variant of || is_found_late env (expression_of (read_of makes x) place of)
-is_indexed_late env place (a_value node of) = is_variant of || is_found_late env (expression_of node place of)
+is_indexed_late env place (a_place x of bounded lends makes) = is_variant of || (is_of_class of || is_found_late env (expression_of (read_of makes x) place of))
+is_indexed_late env place (a_value node of) = is_variant of || (is_of_class of || is_found_late env (expression_of node place of))
 is_indexed_late env place t = false
 
 -- the value of an assignment: where the target takes it with arguments, and for what arguments index in the run, an object
@@ -382,7 +421,7 @@ may_refer of = is_object of || is_variant of
 -- S27: Set to what can't be assigned to; what breaks a rule by itself breaks no other one
 abbrev pub set_value : (set_word place : Place) → Node → Declared → bound.Expr → Option Action
 set_value set_word place (marked broken es) of v = Some (to.set_member (expression_of (marked broken es) set_word of) v)
-set_value set_word place (late_item e es) of v = Some (to.set_element (value_place e) es v)
+set_value set_word place (late_item e es) of v = if is_of_class (bound.operand_type e) then None else Some (to.set_element (value_place e) es v)
 set_value set_word place node of v =
     if not (is_unassignable node) then None
     else if may_refer of then Some (not_assignable place v node of)
@@ -426,10 +465,26 @@ set_by env place gs (a_method object space number p) v = option_and_then (given_
 set_by env place gs (a_host_member e m) v = if m.late then from_two (λ by given. to.set_late e m.name by given v) (given_by_name gs) (late_arguments env gs) else None
 set_by env place gs t v = None
 
+-- what arguments behind an object of a class lead to is given an object
+abbrev pub element_given : Term → bound.Expr → Option Action
+element_given (a_place x of bounded lends makes) v = Some (place_set x v)
+element_given (a_value (late_item e es) of) v = Some (to.set_element (value_place e) es v)
+element_given t v = None
+
+abbrev pub led_set : Env → Known → Place → Term → List Given → bound.Expr → Option Action
+led_set env (known of) place t gs v = element_given (indexed env place t gs) v
+led_set env (breaks rule) place t gs v = option_and_then (λ object. broken_led env rule place gs object v) (given_as env t place)
+led_set env not_said place t gs v = None
+
+abbrev pub index_set : Env → (set_word : Place) → Expr → Expr → List Given → bound.Expr → Option Action
+index_set env set_word base e gs v = at (class_of_term (target_before env base))
+  where
+    at : Option ℕ → Option Action
+    at None = or_else (set_by env (place_told base) gs (target_before env base) v) (set_to set_word (place_told base) (set_target env e) v)
+    at (Some number) = led_set env (class_set (declared_in env.scope) number gs) (place_told base) (target_before env base) gs v
+
 abbrev pub object_set : Env → (set_word : Place) → Expr → bound.Expr → Option Action
-object_set env set_word (index base left args right) v =
-    or_else (set_by env (place_told base) (givens env args) (target_before env base) v)
-    (set_to set_word (place_told base) (set_target env (index base left args right)) v)
+object_set env set_word (index base left args right) v = index_set env set_word base (index base left args right) (givens env args) v
 object_set env set_word e v = or_else (set_by env (place_told e) [] (term_of env e) v) (set_to set_word (place_told e) (set_target env e) v)
 
 -- a value that can't be an object breaks S28, whatever its target is

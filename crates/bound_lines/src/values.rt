@@ -96,7 +96,7 @@ pub(crate) fn push_group<'a>(
     ensures { IfOk result (λ group. GroupPushed (env_view env.entry) (expression_view expression.now) group.of group.place group.may_be (draft_view draft.old) (draft_view draft.new)) }
 {
     let tree = tree_of(alloc, draft, env, expression)?;
-    let ending = given_ending(alloc, draft, tree)?;
+    let ending = given_ending(alloc, draft, tree.term, tree.place)?;
     let may_be = instance_of(env.has_class, draft, ending);
     push_node(draft, ending.kind, ending.of, tree.place)?;
     Ok(Group {

@@ -4,7 +4,6 @@ use Rattle.std.proofs.Common.{◌≡◌, ℕ, ◌<◌, ◌+◌, ◌==◌, Bool, 
 use Rattle.std.specs.Prelude.{option_and_then, option_map, slice_get, unwrap_or}
 use Rattle.vba_base.specs.declared.place.Place.{Place}
 use Rattle.vba_values.specs.Types as type
-use Rattle.vba_expression.specs.Tree.{Expr}
 use Rattle.bound_project.specs.declared.node.LateName.{LateName}
 use Rattle.bound_project.specs.declared.node.LateUse.{LateUse}
 use Rattle.bound_project.specs.declared.node.LateUse.TheVariants.{Reading}

@@ -10,6 +10,7 @@ use Rattle.bound_project.specs.Pieces.{Piece, an_expr, exprs_off}
 use Rattle.bound_calls.specs.bound_declarations.specs.constant_values.specs.declared_names.specs.binder.specs.Options.{from_two}
 use Rattle.bound_calls.specs.bound_forms.specs.Terms.{Given, has_names, listed_values}
 use Rattle.bound_calls.specs.bound_forms.specs.Terms as terms
+use Rattle.bound_calls.specs.class_defaults.specs.Items.{ArePlain}
 use Rattle.bound_calls.specs.Standing.{NumberIs, AllNumbers, ValueIs, AllListed, missing_given, missing_value}
 
 one_listed : (value : terms.Term → Place → Option bound.Expr) (given : Option (List ℕ)) (t : terms.Term) (place : Place) (e : bound.Expr) (gs : List Given) → value t place ≡ Some e
@@ -56,7 +57,7 @@ number_listed value g e h = record {
       subst P (sym h.given) (one_listed value g.name h.term g.place e gs h.is);
 }
 
-numbers_listed : (value : terms.Term → Place → Option bound.Expr) (gs : List Given) (es : List bound.Expr) → AllNumbers value gs es → AllListed value gs es
+pub numbers_listed : (value : terms.Term → Place → Option bound.Expr) (gs : List Given) (es : List bound.Expr) → AllNumbers value gs es → AllListed value gs es
 numbers_listed value [] [] h = tt
 numbers_listed value [] (e ∷ es) h = absurd h
 numbers_listed value (g ∷ gs) [] h = absurd h
@@ -67,6 +68,14 @@ all_listed value gs es h = every_listed value gs es (numbers_listed value gs es 
 
 pub no_names : (value : terms.Term → Place → Option bound.Expr) (gs : List Given) (es : List bound.Expr) → AllNumbers value gs es → has_names gs ≡ false
 no_names value gs es h = listed_nameless value gs es (numbers_listed value gs es h)
+
+-- they are all written, without names
+pub plain_numbers : (value : terms.Term → Place → Option bound.Expr) (gs : List Given) (es : List bound.Expr) → AllNumbers value gs es → ArePlain (length es) gs
+plain_numbers value [] [] h = tt
+plain_numbers value [] (e ∷ es) h = absurd h
+plain_numbers value (g ∷ gs) [] h = absurd h
+plain_numbers value (g ∷ gs) (e ∷ es) h =
+    ((ap (λ (o : Option (List ℕ)). is_some o) h.0.no_name, ap (λ (o : Option terms.Term). is_some o) h.0.given), plain_numbers value gs es h.1)
 
 pub numbers_more : (value : terms.Term → Place → Option bound.Expr) (gs : List Given) (es : List bound.Expr) (g : Given) (e : bound.Expr) → AllNumbers value gs es → NumberIs value g e
     → AllNumbers value (gs ++ g ∷ []) (es ++ e ∷ [])

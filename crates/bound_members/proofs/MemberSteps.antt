@@ -1,6 +1,6 @@
 -- Calls of members.
 use Rattle.std.proofs.lemmas.List.{length-map, map-append}
-use Rattle.std.proofs.Common.{◌≡◌, ◌≢◌, ℕ, ◌<◌, ◌+◌, ◌==◌, Bool, true, false, ◌&&◌, ◌||◌, not, List, [], ◌∷◌, ◌++◌, map, length, Option, Some, None, if◌then◌else◌, refl, sym, ap, subst, ◌∙◌, arith, length-append, ne_eqb}
+use Rattle.std.proofs.Common.{◌≡◌, ◌≢◌, Bor, ℕ, ◌<◌, ◌+◌, ◌==◌, Bool, true, false, ◌&&◌, ◌||◌, not, List, [], ◌∷◌, ◌++◌, map, length, Option, Some, None, if◌then◌else◌, refl, sym, ap, subst, ◌∙◌, arith, length-append, ne_eqb}
 use Rattle.std.specs.Prelude.{option_map, unwrap_or}
 use Rattle.vba_base.specs.declared.place.Place.{Place}
 use Rattle.vba_values.specs.Types as type
@@ -27,9 +27,11 @@ use Rattle.bound_project.specs.Project.{nowhere}
 use Rattle.bound_project.specs.declared.declared_type.DeclaredType.{DeclaredType}
 use Rattle.bound_project.specs.declared.declared_type.DeclaredType.TheVariants.{Plain}
 use Rattle.bound_project.specs.declared.declared_type.ElementType.TheVariants as element
-use Rattle.bound_project.specs.View.{declared_view}
+use Rattle.bound_project.specs.declared.declarations.Declarations.{Declarations}
+use Rattle.bound_project.specs.View.{declarations_view, declared_view}
 use Rattle.bound_calls.specs.bound_forms.specs.Terms.{Env, Given, a_value, expression_of, given_rule, given_to, no_term, unless_broken}
 use Rattle.bound_calls.specs.bound_forms.specs.Terms as terms
+use Rattle.bound_calls.specs.bound_forms.specs.ClassDefaults.{declared_in}
 use Rattle.bound_calls.specs.bound_forms.specs.ExpressionsBound.{are_named_right, argument_of, callee, early_called, given_as, givens, if_there, indexed, is_any, is_called_late, item_of, late_called, member_called, named_called, takes_arguments, takes_names, term_of, term_or, wrong_term, place_told, variant_arguments}
 use Rattle.bound_calls.specs.bound_declarations.specs.constant_values.specs.declared_names.specs.binder.specs.Options.{from_two}
 use Rattle.bound_calls.specs.declared.term.Ending.{Ending}
@@ -433,16 +435,16 @@ ends_member x t kind takes ended = record {
       };
 }
 
-ended_stands : (env : Env) (x : MemberCall) (y : Term) (left right : Token) (xs : List Item) (d : Drafted) → EndsMember d.tables x y → (is : List nodes.Item) (base : Base) → Stands env d.tables (item.Member x ∷ xs) is d.pieces base
-    → Stands env d.tables (item.Tree (record { place = x.place; name = None; dotted = None; term = y }) ∷ xs) (behind_node (node.Index left right) is) d.pieces base
-ended_stands env x y left right xs d m [] base h = absurd h
-ended_stands env x y left right xs d m (nodes.tree v ∷ is) base h = absurd h
-ended_stands env x y left right xs d m (nodes.arguments args ∷ []) base h = absurd h
-ended_stands env x y left right xs d m (nodes.arguments args ∷ nodes.arguments more ∷ is) base h = absurd h
-ended_stands env x y left right xs d m (nodes.arguments args ∷ nodes.tree b ∷ is) base h = (
+ended_stands : (env : Env) (x : MemberCall) (y : Term) (known : Bor Declarations) → declared_in env.scope ≡ declarations_view known.now → (left right : Token) (xs : List Item) (d : Drafted) → EndsMember d.tables x y → (is : List nodes.Item) (base : Base) → Stands env d.tables (item.Member x ∷ xs) is d.pieces base
+    → Stands env d.tables (item.Tree (record { place = x.place; name = None; dotted = None; term = y; declared = known }) ∷ xs) (behind_node (node.Index left right) is) d.pieces base
+ended_stands env x y known w left right xs d m [] base h = absurd h
+ended_stands env x y known w left right xs d m (nodes.tree v ∷ is) base h = absurd h
+ended_stands env x y known w left right xs d m (nodes.arguments args ∷ []) base h = absurd h
+ended_stands env x y known w left right xs d m (nodes.arguments args ∷ nodes.arguments more ∷ is) base h = absurd h
+ended_stands env x y known w left right xs d m (nodes.arguments args ∷ nodes.tree b ∷ is) base h = (
   h.0,
-  (tree_ended env d.tables y x.place b args left right d.pieces h.0 h.1.0.place_is (m.stands env b args d.pieces h.0 h.1.0), h.1.1),
+  (tree_ended env d.tables y x.place known w b args left right d.pieces h.0 h.1.0.place_is (m.stands env b args d.pieces h.0 h.1.0), h.1.1),
 )
 
-pub closes_member : (x : MemberCall) (y : Term) (d : Drafted) → MemberNamed d.tables x → EndsMember d.tables x y → Closes (item.Member x) d d (record { place = x.place; name = None; dotted = None; term = y })
-closes_member x y d named m = record { grown = grown_same d; named = m.named named; stands = λ env left right xs is base k h. ended_stands env x y left right xs d m is base h }
+pub closes_member : (x : MemberCall) (y : Term) (known : Bor Declarations) (d : Drafted) → MemberNamed d.tables x → EndsMember d.tables x y → Closes (declarations_view known.now) (item.Member x) d d (record { place = x.place; name = None; dotted = None; term = y; declared = known })
+closes_member x y known d named m = record { grown = grown_same d; named = m.named named; stands = λ env w left right xs is base k h. ended_stands env x y known w left right xs d m is base h }

@@ -111,7 +111,7 @@ pub fn push_written<'a>(
     requires { TermNamed (draft_view draft.old).tables tree.term }
     ensures { OnOk result (PushesWritten tree.entry (draft_view draft.old) (draft_view draft.new)) }
 {
-    let ending = given_ending(alloc, draft, tree)?;
+    let ending = given_ending(alloc, draft, tree.term, tree.place)?;
     if !is_value_kind(ending.kind) {
         return Err(OrMemory::Fault(NotYet));
     }

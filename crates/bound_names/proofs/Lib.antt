@@ -1,3 +1,4 @@
+pub mod Declaring
 pub mod Lookups
 pub mod NamedTerms
 pub mod Objects

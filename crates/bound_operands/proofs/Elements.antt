@@ -1,10 +1,9 @@
 -- What numbers and other arguments in brackets make of places and values.
-use Rattle.std.proofs.Common.{◌≡◌, ◌<◌, Bool, true, false, ◌&&◌, not, List, [], ◌∷◌, length, Option, Some, None, is_some, option_map, if◌then◌else◌, refl, sym, ap, subst, ◌∙◌, arith}
+use Rattle.std.proofs.Common.{◌≡◌, ◌<◌, Bool, true, false, ◌&&◌, not, List, [], ◌∷◌, length, Option, Some, None, is_some, if◌then◌else◌, refl, sym, ap, subst, ◌∙◌, arith}
 use Rattle.std.proofs.lemmas.Bool.{and_right}
 use Rattle.std.specs.Prelude.{codes}
 use Rattle.vba_base.specs.declared.place.Place.{Place}
 use Rattle.vba_expression.specs.Tree.{Expr}
-use Rattle.vba_expression.specs.declared.node.ExpressionNode.TheVariants as node
 use Rattle.vba_values.specs.Types.{Declared}
 use Rattle.vba_values.specs.Types as type
 use Rattle.bound_project.specs.declared.declared_type.DeclaredType.{DeclaredType}
@@ -22,7 +21,7 @@ use Rattle.bound_project.specs.Pieces.{Piece, Tables, an_expr, a_place, exprs_of
 use Rattle.bound_project.specs.Drafts.{Drafted}
 use Rattle.bound_members.specs.bound_calls.specs.bound_forms.specs.Terms.{Env, Given, a_value, expression_of, has_names, listed_values, read_of}
 use Rattle.bound_members.specs.bound_calls.specs.bound_forms.specs.Terms as terms
-use Rattle.bound_members.specs.bound_calls.specs.bound_forms.specs.ExpressionsBound.{along_of, are_numbers, callee, element_place, element_type, has_item_member, if_there, indexed, indexed_type, indexed_value, is_found_late, is_host_type, is_of_class, item_of, may_be_instance, numbers_of, object_member, operand_of, place_told, term_of, term_or, with_type, wrong_term}
+use Rattle.bound_members.specs.bound_calls.specs.bound_forms.specs.ExpressionsBound.{along_of, along_type, along_value, are_numbers, callee, element_place, element_type, has_item_member, indexed, indexed_type, indexed_value, is_found_late, is_host_type, is_of_class, item_of, may_be_instance, numbers_of, object_member, operand_of, place_told, term_of, term_or, wrong_term}
 use Rattle.bound_members.specs.bound_calls.specs.declared.term.Ending.{Ending}
 use Rattle.bound_members.specs.bound_calls.specs.declared.term.Routine.{Routine}
 use Rattle.bound_members.specs.bound_calls.specs.declared.term.Term.{Term}
@@ -31,14 +30,13 @@ use Rattle.bound_members.specs.bound_calls.specs.declared.term.Tree.{Tree}
 use Rattle.bound_members.specs.bound_calls.specs.declared.term.Target.{Target}
 use Rattle.bound_members.specs.bound_calls.specs.declared.term.Target.TheVariants as target
 use Rattle.bound_members.specs.bound_calls.specs.declared.term.Indexed.{Indexed}
-use Rattle.bound_members.specs.bound_calls.specs.declared.term.Item.{Item}
 use Rattle.bound_members.specs.bound_calls.specs.declared.term.Item.TheVariants as items
 use Rattle.bound_members.specs.bound_calls.specs.Calls.{node_of, PushesReceiver}
-use Rattle.bound_members.specs.bound_calls.specs.Standing.{AllListed, AllNumbers, Grown, NumbersStand, TargetStands, TermStands, ValueEnds, along_value}
-use Rattle.bound_operands.specs.Indexing.{HasElements, HowIndexed, PushesAlong, PushesAsPlace, PushesWhole, is_along}
+use Rattle.bound_members.specs.bound_calls.specs.Standing.{AllListed, AllNumbers, Grown, NumbersStand, TargetStands, TermStands, ValueEnds, along_given}
+use Rattle.bound_operands.specs.Indexing.{HasElements, HowIndexed, PushesAlong, PushesAsPlace, PushesWhole, is_along, is_led}
 use Rattle.bound_members.specs.bound_calls.specs.References.{IsFoundLate}
 use Rattle.bound_members.specs.bound_calls.specs.Indexing.{TargetAt, PushesTarget, OpensTerm, is_part}
-use Rattle.bound_members.proofs.Listing.{all_listed, every_listed, listed_nameless, no_names}
+use Rattle.bound_members.proofs.Listing.{all_listed, every_listed, listed_nameless, no_names, numbers_listed}
 use Rattle.bound_members.proofs.LateItems.{no_item_late}
 use Rattle.bound_members.specs.bound_calls.proofs.Growing.{grown_same, grown_pieces, grown_twice}
 use Rattle.bound_members.specs.bound_calls.specs.bound_declarations.specs.constant_values.specs.declared_names.specs.binder.specs.Classes.{has_class}
@@ -61,52 +59,93 @@ numbers_are value (g ∷ gs) (e ∷ es) h lt =
     ∙ ap (λ (b : Bool). if not b then listed_values value (g ∷ gs) else None) (no_names value (g ∷ gs) (e ∷ es) h) ∙ all_listed value (g ∷ gs) (e ∷ es) h
 
 -- arguments that lead on as the run says
-pub along_are : (env : Env) (gs : List Given) (es : List bound.Expr) → AllListed (along_value env) gs es → 0 < length es → along_of (operand_of env) gs ≡ Some (exprs_of es)
+pub along_are : (env : Env) (gs : List Given) (es : List bound.Expr) → AllListed (along_given env) gs es → 0 < length es → along_of (along_value env) gs ≡ Some (exprs_of es)
 along_are env gs [] h lt = absurd (omega (arith, lt))
 along_are env [] (e ∷ es) h lt = absurd h
 along_are env (g ∷ gs) (e ∷ es) h lt =
-    ap (λ (b : Bool). if b then None else listed_values (along_value env) (g ∷ gs)) (listed_nameless (along_value env) (g ∷ gs) (e ∷ es) h) ∙ every_listed (along_value env) (g ∷ gs) (e ∷ es) h
+    ap (λ (b : Bool). if b then None else listed_values (along_given env) (g ∷ gs)) (listed_nameless (along_given env) (g ∷ gs) (e ∷ es) h) ∙ every_listed (along_given env) (g ∷ gs) (e ∷ es) h
+
+-- and behind an object of a class, where they are all written
+pub led_are : (env : Env) (gs : List Given) (es : List bound.Expr) → AllNumbers (along_given env) gs es → 0 < length es → along_of (along_value env) gs ≡ Some (exprs_of es)
+led_are env gs es h lt = along_are env gs es (numbers_listed (along_given env) gs es h) lt
 
 -- what was pushed for arguments, by what is indexed
-none_pushed : (env : Env) (x : Target) → NumbersStand env x [] []
+pub none_pushed : (env : Env) (x : Target) → NumbersStand env x [] []
 none_pushed env (target.Variable v) = tt
 none_pushed env target.Place = tt
 none_pushed env target.Value = tt
 none_pushed env target.PlaceAlong = tt
 none_pushed env target.ValueAlong = tt
 none_pushed env target.ValueAsPlace = tt
+none_pushed env (target.PlaceLed count) = tt
+none_pushed env (target.ValueLed count) = tt
+none_pushed env (target.LedAsPlace count) = tt
 
-pub as_numbers : (env : Env) (x : Target) (gs : List Given) (es : List bound.Expr) → is_along x ≡ false → NumbersStand env x gs es → AllNumbers (operand_of env) gs es
-as_numbers env (target.Variable v) gs es n h = h
-as_numbers env target.Place gs es n h = h
-as_numbers env target.Value gs es n h = h
-as_numbers env target.PlaceAlong gs es n h = let e : true ≡ false = n in absurd cc
-as_numbers env target.ValueAlong gs es n h = let e : true ≡ false = n in absurd cc
-as_numbers env target.ValueAsPlace gs es n h = let e : true ≡ false = n in absurd cc
+pub as_numbers : (env : Env) (x : Target) (gs : List Given) (es : List bound.Expr) → is_along x ≡ false → is_led x ≡ false → NumbersStand env x gs es → AllNumbers (operand_of env) gs es
+as_numbers env (target.Variable v) gs es n m h = h
+as_numbers env target.Place gs es n m h = h
+as_numbers env target.Value gs es n m h = h
+as_numbers env target.PlaceAlong gs es n m h = let e : true ≡ false = n in absurd cc
+as_numbers env target.ValueAlong gs es n m h = let e : true ≡ false = n in absurd cc
+as_numbers env target.ValueAsPlace gs es n m h = let e : true ≡ false = n in absurd cc
+as_numbers env (target.PlaceLed count) gs es n m h = let e : true ≡ false = m in absurd cc
+as_numbers env (target.ValueLed count) gs es n m h = let e : true ≡ false = m in absurd cc
+as_numbers env (target.LedAsPlace count) gs es n m h = let e : true ≡ false = m in absurd cc
 
-pub from_numbers : (env : Env) (x : Target) (gs : List Given) (es : List bound.Expr) → is_along x ≡ false → AllNumbers (operand_of env) gs es → NumbersStand env x gs es
-from_numbers env (target.Variable v) gs es n h = h
-from_numbers env target.Place gs es n h = h
-from_numbers env target.Value gs es n h = h
-from_numbers env target.PlaceAlong gs es n h = let e : true ≡ false = n in absurd cc
-from_numbers env target.ValueAlong gs es n h = let e : true ≡ false = n in absurd cc
-from_numbers env target.ValueAsPlace gs es n h = let e : true ≡ false = n in absurd cc
+pub from_numbers : (env : Env) (x : Target) (gs : List Given) (es : List bound.Expr) → is_along x ≡ false → is_led x ≡ false → AllNumbers (operand_of env) gs es → NumbersStand env x gs es
+from_numbers env (target.Variable v) gs es n m h = h
+from_numbers env target.Place gs es n m h = h
+from_numbers env target.Value gs es n m h = h
+from_numbers env target.PlaceAlong gs es n m h = let e : true ≡ false = n in absurd cc
+from_numbers env target.ValueAlong gs es n m h = let e : true ≡ false = n in absurd cc
+from_numbers env target.ValueAsPlace gs es n m h = let e : true ≡ false = n in absurd cc
+from_numbers env (target.PlaceLed count) gs es n m h = let e : true ≡ false = m in absurd cc
+from_numbers env (target.ValueLed count) gs es n m h = let e : true ≡ false = m in absurd cc
+from_numbers env (target.LedAsPlace count) gs es n m h = let e : true ≡ false = m in absurd cc
 
-pub as_listed : (env : Env) (x : Target) (gs : List Given) (es : List bound.Expr) → is_along x ≡ true → NumbersStand env x gs es → AllListed (along_value env) gs es
+pub as_listed : (env : Env) (x : Target) (gs : List Given) (es : List bound.Expr) → is_along x ≡ true → NumbersStand env x gs es → AllListed (along_given env) gs es
 as_listed env (target.Variable v) gs es n h = let e : false ≡ true = n in absurd cc
 as_listed env target.Place gs es n h = let e : false ≡ true = n in absurd cc
 as_listed env target.Value gs es n h = let e : false ≡ true = n in absurd cc
 as_listed env target.PlaceAlong gs es n h = h
 as_listed env target.ValueAlong gs es n h = h
 as_listed env target.ValueAsPlace gs es n h = h
+as_listed env (target.PlaceLed count) gs es n h = let e : false ≡ true = n in absurd cc
+as_listed env (target.ValueLed count) gs es n h = let e : false ≡ true = n in absurd cc
+as_listed env (target.LedAsPlace count) gs es n h = let e : false ≡ true = n in absurd cc
 
-pub from_listed : (env : Env) (x : Target) (gs : List Given) (es : List bound.Expr) → is_along x ≡ true → AllListed (along_value env) gs es → NumbersStand env x gs es
+pub from_listed : (env : Env) (x : Target) (gs : List Given) (es : List bound.Expr) → is_along x ≡ true → AllListed (along_given env) gs es → NumbersStand env x gs es
 from_listed env (target.Variable v) gs es n h = let e : false ≡ true = n in absurd cc
 from_listed env target.Place gs es n h = let e : false ≡ true = n in absurd cc
 from_listed env target.Value gs es n h = let e : false ≡ true = n in absurd cc
 from_listed env target.PlaceAlong gs es n h = h
 from_listed env target.ValueAlong gs es n h = h
 from_listed env target.ValueAsPlace gs es n h = h
+from_listed env (target.PlaceLed count) gs es n h = let e : false ≡ true = n in absurd cc
+from_listed env (target.ValueLed count) gs es n h = let e : false ≡ true = n in absurd cc
+from_listed env (target.LedAsPlace count) gs es n h = let e : false ≡ true = n in absurd cc
+
+pub as_led : (env : Env) (x : Target) (gs : List Given) (es : List bound.Expr) → is_led x ≡ true → NumbersStand env x gs es → AllNumbers (along_given env) gs es
+as_led env (target.Variable v) gs es n h = let e : false ≡ true = n in absurd cc
+as_led env target.Place gs es n h = let e : false ≡ true = n in absurd cc
+as_led env target.Value gs es n h = let e : false ≡ true = n in absurd cc
+as_led env target.PlaceAlong gs es n h = let e : false ≡ true = n in absurd cc
+as_led env target.ValueAlong gs es n h = let e : false ≡ true = n in absurd cc
+as_led env target.ValueAsPlace gs es n h = let e : false ≡ true = n in absurd cc
+as_led env (target.PlaceLed count) gs es n h = h
+as_led env (target.ValueLed count) gs es n h = h
+as_led env (target.LedAsPlace count) gs es n h = h
+
+pub from_led : (env : Env) (x : Target) (gs : List Given) (es : List bound.Expr) → is_led x ≡ true → AllNumbers (along_given env) gs es → NumbersStand env x gs es
+from_led env (target.Variable v) gs es n h = let e : false ≡ true = n in absurd cc
+from_led env target.Place gs es n h = let e : false ≡ true = n in absurd cc
+from_led env target.Value gs es n h = let e : false ≡ true = n in absurd cc
+from_led env target.PlaceAlong gs es n h = let e : false ≡ true = n in absurd cc
+from_led env target.ValueAlong gs es n h = let e : false ≡ true = n in absurd cc
+from_led env target.ValueAsPlace gs es n h = let e : false ≡ true = n in absurd cc
+from_led env (target.PlaceLed count) gs es n h = h
+from_led env (target.ValueLed count) gs es n h = h
+from_led env (target.LedAsPlace count) gs es n h = h
 
 -- ---- what is indexed
 
@@ -202,56 +241,56 @@ not_late : (env : Env) (node : bound.Node) (place : Place) (of u : Declared) →
 not_late env node place of u h =
     let b = may_be_instance env (expression_of node place of) in and_right (not (is_of_class of)) b (no_instance b (element_type of) u h)
 
+-- what is no object of the host has no default member Item that is known
+pub no_item_host : (env : Env) (node : bound.Node) (place : Place) (of : Declared) → is_host_type of ≡ false → has_item_member env (expression_of node place of) ≡ false
+no_item_host env node place of h = ap (λ (b : Bool). b && not (may_be_instance env (expression_of node place of))) h
+
 -- what has elements has no default member Item
 pub no_item_elements : (env : Env) (node : bound.Node) (place : Place) (of u : Declared) → element_type of ≡ Some u → has_item_member env (expression_of node place of) ≡ false
-no_item_elements env node place of u h = ap (λ (b : Bool). b && not (may_be_instance env (expression_of node place of))) (no_object of u h)
+no_item_elements env node place of u h = no_item_host env node place of (no_object of u h)
 
 pub same_place : (env : Env) (place : Place) (at : Lvalue) (whole : Declared) (bounded lends makes : Bool) → has_item_member env (expression_of (read_of makes at) place whole) ≡ false
     → item_of env place (terms.a_place at whole bounded lends makes) ≡ terms.a_place at whole bounded lends makes
 same_place env place at whole bounded lends makes h =
     ap (λ (b : Bool). if b then object_member place place (read_of makes at) whole (codes "item") else terms.a_place at whole bounded lends makes) h
 
-same_value : (env : Env) (place : Place) (made : bound.Node) (whole : Declared) → has_item_member env (expression_of made place whole) ≡ false → item_of env place (a_value made whole) ≡ a_value made whole
+pub same_value : (env : Env) (place : Place) (made : bound.Node) (whole : Declared) → has_item_member env (expression_of made place whole) ≡ false → item_of env place (a_value made whole) ≡ a_value made whole
 same_value env place made whole h = ap (λ (b : Bool). if b then object_member place place made whole (codes "item") else a_value made whole) h
+
+-- of which type arguments lead to something: not behind what has elements
+pub elements_along : (env : Env) (node : bound.Node) (place : Place) (of u : Declared) (gs : List Given) → indexed_type env (expression_of node place of) ≡ Some u → along_type env (expression_of node place of) gs ≡ None
+elements_along env node place (type.class n) u gs h = let e : None ≡ Some u = element_of_type (may_be_instance env (expression_of node place (type.class n))) None u h in absurd cc
+elements_along env node place of u gs h = ap (λ (b : Bool). if b then Some type.variant else None) (not_late env node place of u h)
+
+-- and a Variant behind what the run says more of
+pub late_along : (env : Env) (node : bound.Node) (place : Place) (of : Declared) (gs : List Given) → is_found_late env (expression_of node place of) ≡ true → along_type env (expression_of node place of) gs ≡ Some type.variant
+late_along env node place (type.class n) gs h = let e : false ≡ true = h in absurd cc
+late_along env node place of gs h = ap (λ (b : Bool). if b then Some type.variant else None) h
 
 pub place_indexed : (env : Env) (place : Place) (at : Lvalue) (whole : Declared) (bounded lends makes : Bool) (gs : List Given) (of : Declared) (es : Exprs) → indexed_type env (expression_of (read_of makes at) place whole) ≡ Some of
     → numbers_of (operand_of env) gs ≡ Some es → indexed env place (terms.a_place at whole bounded lends makes) gs ≡ terms.a_place (element_place at es) of false lends false
-place_indexed env place at whole bounded lends makes gs of es h k =
-    let T : Declared → Exprs → terms.Term = λ (u : Declared) (xs : Exprs). terms.a_place (element_place at xs) u false lends false in
-    let wrong = wrong_term env place (terms.a_place at whole bounded lends makes) gs in
-    let along : terms.Term = if_there (option_map (λ (xs : Exprs). terms.a_place (element_along at xs) type.variant false lends false) (along_of (operand_of env) gs)) in
-    ap (λ (b : Bool). term_or (if b then along else with_type (indexed_type env (expression_of (read_of makes at) place whole)) (numbers_of (operand_of env) gs) T) wrong) (not_late env (read_of makes at) place whole of h)
-    ∙ ap (λ (o : Option Declared). term_or (with_type o (numbers_of (operand_of env) gs) T) wrong) h ∙ ap (λ (o : Option Exprs). term_or (with_type (Some of) o T) wrong) k
+place_indexed env place at whole bounded lends makes gs of es h k = rw (elements_along env (read_of makes at) place whole of gs h, h, k) refl
+
+pub place_led : (env : Env) (place : Place) (at : Lvalue) (whole : Declared) (bounded lends makes : Bool) (gs : List Given) (of : Declared) (es : Exprs) → along_type env (expression_of (read_of makes at) place whole) gs ≡ Some of
+    → along_of (along_value env) gs ≡ Some es → indexed env place (terms.a_place at whole bounded lends makes) gs ≡ terms.a_place (element_along at es) of false lends false
+place_led env place at whole bounded lends makes gs of es h k = rw (h, k) refl
 
 pub place_along : (env : Env) (place : Place) (at : Lvalue) (whole : Declared) (bounded lends makes : Bool) (gs : List Given) (es : Exprs) → is_found_late env (expression_of (read_of makes at) place whole) ≡ true
-    → along_of (operand_of env) gs ≡ Some es → indexed env place (terms.a_place at whole bounded lends makes) gs ≡ terms.a_place (element_along at es) type.variant false lends false
-place_along env place at whole bounded lends makes gs es h k =
-    let T : Declared → Exprs → terms.Term = λ (u : Declared) (xs : Exprs). terms.a_place (element_place at xs) u false lends false in
-    let A : Exprs → terms.Term = λ (xs : Exprs). terms.a_place (element_along at xs) type.variant false lends false in
-    let wrong = wrong_term env place (terms.a_place at whole bounded lends makes) gs in
-    let by_number : terms.Term = with_type (indexed_type env (expression_of (read_of makes at) place whole)) (numbers_of (operand_of env) gs) T in
-    ap (λ (b : Bool). term_or (if b then if_there (option_map A (along_of (operand_of env) gs)) else by_number) wrong) h ∙ ap (λ (o : Option Exprs). term_or (if_there (option_map A o)) wrong) k
+    → along_of (along_value env) gs ≡ Some es → indexed env place (terms.a_place at whole bounded lends makes) gs ≡ terms.a_place (element_along at es) type.variant false lends false
+place_along env place at whole bounded lends makes gs es h k = place_led env place at whole bounded lends makes gs type.variant es (late_along env (read_of makes at) place whole gs h) k
 
 -- a value by its elements, and one in which arguments lead on
 pub by_elements : (env : Env) (place : Place) (made : bound.Node) (whole : Declared) (gs : List Given) (of : Declared) (es : Exprs) → indexed_type env (expression_of made place whole) ≡ Some of → numbers_of (operand_of env) gs ≡ Some es
-    → indexed_value (operand_of env) env place made whole gs ≡ a_value (element_value (expression_of made place whole) es) of
-by_elements env place made whole gs of es h k =
-    let T : Declared → Exprs → terms.Term = λ (u : Declared) (xs : Exprs). a_value (element_value (expression_of made place whole) xs) u in
-    let along : terms.Term = if_there (option_map (λ (xs : Exprs). a_value (late_item (expression_of made place whole) xs) type.variant) (along_of (operand_of env) gs)) in
-    ap (λ (b : Bool). if b then along else with_type (indexed_type env (expression_of made place whole)) (numbers_of (operand_of env) gs) T) (not_late env made place whole of h)
-    ∙ ap (λ (o : Option Declared). with_type o (numbers_of (operand_of env) gs) T) h ∙ ap (λ (o : Option Exprs). with_type (Some of) o T) k
+    → indexed_value (operand_of env) (along_value env) env place made whole gs ≡ a_value (element_value (expression_of made place whole) es) of
+by_elements env place made whole gs of es h k = rw (elements_along env made place whole of gs h, h, k) refl
 
-pub by_arguments : (env : Env) (place : Place) (made : bound.Node) (whole : Declared) (gs : List Given) (es : Exprs) → is_found_late env (expression_of made place whole) ≡ true → along_of (operand_of env) gs ≡ Some es
-    → indexed_value (operand_of env) env place made whole gs ≡ a_value (late_item (expression_of made place whole) es) type.variant
-by_arguments env place made whole gs es h k =
-    let T : Declared → Exprs → terms.Term = λ (u : Declared) (xs : Exprs). a_value (element_value (expression_of made place whole) xs) u in
-    let A : Exprs → terms.Term = λ (xs : Exprs). a_value (late_item (expression_of made place whole) xs) type.variant in
-    ap (λ (b : Bool). if b then if_there (option_map A (along_of (operand_of env) gs)) else with_type (indexed_type env (expression_of made place whole)) (numbers_of (operand_of env) gs) T) h
-    ∙ ap (λ (o : Option Exprs). if_there (option_map A o)) k
+pub by_arguments : (env : Env) (place : Place) (made : bound.Node) (whole : Declared) (gs : List Given) (of : Declared) (es : Exprs) → along_type env (expression_of made place whole) gs ≡ Some of → along_of (along_value env) gs ≡ Some es
+    → indexed_value (operand_of env) (along_value env) env place made whole gs ≡ a_value (late_item (expression_of made place whole) es) of
+by_arguments env place made whole gs of es h k = rw (h, k) refl
 
 -- what a term is that is indexed as a value is
 abbrev pub IndexedAs : Env → Place → terms.Term → (made : bound.Node) → Declared → Type 0
-IndexedAs env place z made whole = (g : Given) (gs : List Given) (node : bound.Node) (of : Declared) → indexed_value (operand_of env) env place made whole (g ∷ gs) ≡ a_value node of → indexed env place (item_of env place z) (g ∷ gs) ≡ a_value node of
+IndexedAs env place z made whole = (g : Given) (gs : List Given) (node : bound.Node) (of : Declared) → indexed_value (operand_of env) (along_value env) env place made whole (g ∷ gs) ≡ a_value node of → indexed env place (item_of env place z) (g ∷ gs) ≡ a_value node of
 
 pub indexed_as : (env : Env) (place : Place) (z : terms.Term) (made : bound.Node) (whole : Declared) → item_of env place z ≡ a_value made whole → IndexedAs env place z made whole
 indexed_as env place z made whole same = λ g gs node of h.
@@ -262,10 +301,14 @@ by_numbers : (env : Env) (place : Place) (z : terms.Term) (made : bound.Node) (w
 by_numbers env place z made whole [] of es way h k = let e : ◌≡◌ {A = Option Exprs} None (Some es) = k in absurd cc
 by_numbers env place z made whole (g ∷ gs) of es way h k = way g gs (element_value (expression_of made place whole) es) of (by_elements env place made whole (g ∷ gs) of es h k)
 
+pub by_led : (env : Env) (place : Place) (z : terms.Term) (made : bound.Node) (whole : Declared) (gs : List Given) (of : Declared) (es : Exprs) → IndexedAs env place z made whole → along_type env (expression_of made place whole) gs ≡ Some of
+    → along_of (along_value env) gs ≡ Some es → indexed env place (item_of env place z) gs ≡ a_value (late_item (expression_of made place whole) es) of
+by_led env place z made whole [] of es way h k = let e : ◌≡◌ {A = Option Exprs} None (Some es) = k in absurd cc
+by_led env place z made whole (g ∷ gs) of es way h k = way g gs (late_item (expression_of made place whole) es) of (by_arguments env place made whole (g ∷ gs) of es h k)
+
 by_along : (env : Env) (place : Place) (z : terms.Term) (made : bound.Node) (whole : Declared) (gs : List Given) (es : Exprs) → IndexedAs env place z made whole → is_found_late env (expression_of made place whole) ≡ true
-    → along_of (operand_of env) gs ≡ Some es → indexed env place (item_of env place z) gs ≡ a_value (late_item (expression_of made place whole) es) type.variant
-by_along env place z made whole [] es way h k = let e : ◌≡◌ {A = Option Exprs} None (Some es) = k in absurd cc
-by_along env place z made whole (g ∷ gs) es way h k = way g gs (late_item (expression_of made place whole) es) type.variant (by_arguments env place made whole (g ∷ gs) es h k)
+    → along_of (along_value env) gs ≡ Some es → indexed env place (item_of env place z) gs ≡ a_value (late_item (expression_of made place whole) es) type.variant
+by_along env place z made whole gs es way h k = by_led env place z made whole gs type.variant es way (late_along env made place whole gs h) k
 
 -- ---- arguments begin
 
@@ -285,6 +328,9 @@ target_stands env target.Value of whole bounded lends makes place z at ps below 
 target_stands env target.PlaceAlong of whole bounded lends makes place z at ps below e is q = absurd q
 target_stands env target.ValueAlong of whole bounded lends makes place z at ps below e is q = absurd q
 target_stands env target.ValueAsPlace of whole bounded lends makes place z at ps below e is q = absurd q
+target_stands env (target.PlaceLed count) of whole bounded lends makes place z at ps below e is q = absurd q
+target_stands env (target.ValueLed count) of whole bounded lends makes place z at ps below e is q = absurd q
+target_stands env (target.LedAsPlace count) of whole bounded lends makes place z at ps below e is q = absurd q
 
 abbrev pub begun : Tree → Target → DeclaredType → Bool → Indexed
 begun x t of lends = record { place = x.place; target = t; of = of; lends = lends; count = 0 }
@@ -395,6 +441,9 @@ whole_stands env has t v (target.Variable x) of place z made qs ps below known h
 whole_stands env has t v target.Place of place z made qs ps below known how ends way top = absurd how
 whole_stands env has t v target.PlaceAlong of place z made qs ps below known how ends way top = absurd how
 whole_stands env has t v target.ValueAsPlace of place z made qs ps below known how ends way top = absurd how
+whole_stands env has t v (target.PlaceLed count) of place z made qs ps below known how ends way top = absurd how
+whole_stands env has t v (target.ValueLed count) of place z made qs ps below known how ends way top = absurd how
+whole_stands env has t v (target.LedAsPlace count) of place z made qs ps below known how ends way top = absurd how
 whole_stands env has t v target.Value of place z made qs ps below known how ends way top =
     let u = declared_view v.of in
     let element_is = indexed_by env made place u (declared_view of) (how.none env made place qs below known ends) how.element_is in
@@ -411,6 +460,9 @@ whole_item env has t v (target.Variable x) of place made qs below known how ends
 whole_item env has t v target.Place of place made qs below known how ends = absurd how
 whole_item env has t v target.PlaceAlong of place made qs below known how ends = absurd how
 whole_item env has t v target.ValueAsPlace of place made qs below known how ends = absurd how
+whole_item env has t v (target.PlaceLed count) of place made qs below known how ends = absurd how
+whole_item env has t v (target.ValueLed count) of place made qs below known how ends = absurd how
+whole_item env has t v (target.LedAsPlace count) of place made qs below known how ends = absurd how
 whole_item env has t v target.Value of place made qs below known how ends = no_item_elements env made place (declared_view v.of) (declared_view of) how.element_is
 whole_item env has t v target.ValueAlong of place made qs below known how ends = no_item_late env place made (declared_view v.of) (how.late env made place qs below known ends)
 

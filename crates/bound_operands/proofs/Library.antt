@@ -1,5 +1,5 @@
 -- Functions of the library: what their names are, and calls of them.
-use Rattle.std.proofs.Common.{◌≡◌, ℕ, suc, ◌+◌, ◌==◌, Bool, true, false, ◌&&◌, ◌||◌, not, is_some, List, [], ◌∷◌, ◌++◌, map, length, Option, Some, None, option_map, refl, sym, ap, subst, ◌∙◌, arith, length-append, ne_eqb}
+use Rattle.std.proofs.Common.{Bor, ◌≡◌, ℕ, suc, ◌+◌, ◌==◌, Bool, true, false, ◌&&◌, ◌||◌, not, is_some, List, [], ◌∷◌, ◌++◌, map, length, Option, Some, None, option_map, refl, sym, ap, subst, ◌∙◌, arith, length-append, ne_eqb}
 use Rattle.std.specs.Prelude.{ℤ, pos}
 use Rattle.std.proofs.lemmas.List.{map-append}
 use Rattle.vba_base.specs.declared.place.Place.{Place}
@@ -23,7 +23,8 @@ use Rattle.bound_project.specs.declared.declared_type.DeclaredType.TheVariants.{
 use Rattle.bound_project.specs.declared.declared_type.ElementType.TheVariants as element
 use Rattle.bound_project.specs.Project.{nowhere}
 use Rattle.bound_project.specs.declared.node.NodeKind.TheVariants as kinds
-use Rattle.bound_project.specs.View.{declared_view, base_view}
+use Rattle.bound_project.specs.declared.declarations.Declarations.{Declarations}
+use Rattle.bound_project.specs.View.{declarations_view, declared_view, base_view}
 use Rattle.bound_project.specs.Expressions.{Exprs, also, library, marked}
 use Rattle.bound_project.specs.Expressions as bound
 use Rattle.bound_project.specs.Lists.{above, exprs_of}
@@ -34,6 +35,7 @@ use Rattle.bound_members.specs.bound_calls.specs.bound_declarations.specs.consta
 use Rattle.bound_members.specs.bound_calls.specs.bound_declarations.specs.constant_values.specs.declared_names.specs.binder.specs.Options.{from_two}
 use Rattle.bound_members.specs.bound_calls.specs.bound_forms.specs.Terms.{Env, Given, a_value, given_to, has_names}
 use Rattle.bound_members.specs.bound_calls.specs.bound_forms.specs.Terms as terms
+use Rattle.bound_members.specs.bound_calls.specs.bound_forms.specs.ClassDefaults.{declared_in}
 use Rattle.bound_members.specs.bound_calls.specs.bound_forms.specs.ExpressionsBound.{callee, first_given, function_called, function_takes, function_value, function_values, givens, has_start, if_there, indexed, is_wrong, item_of, lacks_needed, needs, taken_as, takes_count, taking, term_of, place_told, term_or}
 use Rattle.bound_members.specs.bound_calls.specs.declared.term.Ending.{Ending}
 use Rattle.bound_members.specs.bound_calls.specs.declared.term.Function.{Function}
@@ -367,19 +369,19 @@ ends_untaken x takes = record {
 
 -- ---- arguments end
 
-abbrev pub ended_function : FunctionCall → Term → Tree
-ended_function x y = record { place = x.place; name = None; dotted = None; term = y }
+abbrev pub ended_function : FunctionCall → Term → Bor Declarations → Tree
+ended_function x y known = record { place = x.place; name = None; dotted = None; term = y; declared = known }
 
-ended_stands : (env : Env) (x : FunctionCall) (y : Term) (left right : Token) (xs : List Item) (d : Drafted) → EndsFunction x y → (is : List nodes.Item) (base : Base) → Stands env d.tables (items.Function x ∷ xs) is d.pieces base
-    → Stands env d.tables (items.Tree (ended_function x y) ∷ xs) (behind_node (node.Index left right) is) d.pieces base
-ended_stands env x y left right xs d m [] base h = absurd h
-ended_stands env x y left right xs d m (nodes.tree v ∷ is) base h = absurd h
-ended_stands env x y left right xs d m (nodes.arguments args ∷ []) base h = absurd h
-ended_stands env x y left right xs d m (nodes.arguments args ∷ nodes.arguments more ∷ is) base h = absurd h
-ended_stands env x y left right xs d m (nodes.arguments args ∷ nodes.tree b ∷ is) base h = (
+ended_stands : (env : Env) (x : FunctionCall) (y : Term) (known : Bor Declarations) → declared_in env.scope ≡ declarations_view known.now → (left right : Token) (xs : List Item) (d : Drafted) → EndsFunction x y → (is : List nodes.Item) (base : Base) → Stands env d.tables (items.Function x ∷ xs) is d.pieces base
+    → Stands env d.tables (items.Tree (ended_function x y known) ∷ xs) (behind_node (node.Index left right) is) d.pieces base
+ended_stands env x y known w left right xs d m [] base h = absurd h
+ended_stands env x y known w left right xs d m (nodes.tree v ∷ is) base h = absurd h
+ended_stands env x y known w left right xs d m (nodes.arguments args ∷ []) base h = absurd h
+ended_stands env x y known w left right xs d m (nodes.arguments args ∷ nodes.arguments more ∷ is) base h = absurd h
+ended_stands env x y known w left right xs d m (nodes.arguments args ∷ nodes.tree b ∷ is) base h = (
   h.0,
-  (tree_ended env d.tables y x.place b args left right d.pieces h.0 h.1.0.place_is (m.stands env d.tables b args d.pieces h.0 h.1.0), h.1.1),
+  (tree_ended env d.tables y x.place known w b args left right d.pieces h.0 h.1.0.place_is (m.stands env d.tables b args d.pieces h.0 h.1.0), h.1.1),
 )
 
-pub closes_function : (x : FunctionCall) (y : Term) (d : Drafted) → EndsFunction x y → Closes (items.Function x) d d (ended_function x y)
-closes_function x y d m = record { grown = grown_same d; named = m.named d.tables; stands = λ env left right xs is base k h. ended_stands env x y left right xs d m is base h }
+pub closes_function : (x : FunctionCall) (y : Term) (known : Bor Declarations) (d : Drafted) → EndsFunction x y → Closes (declarations_view known.now) (items.Function x) d d (ended_function x y known)
+closes_function x y known d m = record { grown = grown_same d; named = m.named d.tables; stands = λ env w left right xs is base k h. ended_stands env x y known w left right xs d m is base h }

@@ -1,5 +1,5 @@
 -- What values for a ParamArray do to the stack, and the calls that they end.
-use Rattle.std.proofs.Common.{◌≡◌, ℕ, zero, suc, ◌+◌, ◌==◌, ◌<◌, ◌≤◌, Bool, true, false, ◌||◌, List, [], ◌∷◌, ◌++◌, map, length, Option, Some, None, refl, sym, ap, subst, ◌∙◌, arith, length-append, append-nil, append_assoc, eq-eqb, ne_eqb}
+use Rattle.std.proofs.Common.{Bor, ◌≡◌, ℕ, zero, suc, ◌+◌, ◌==◌, ◌<◌, ◌≤◌, Bool, true, false, ◌||◌, List, [], ◌∷◌, ◌++◌, map, length, Option, Some, None, refl, sym, ap, subst, ◌∙◌, arith, length-append, append-nil, append_assoc, eq-eqb, ne_eqb}
 use Rattle.std.proofs.lemmas.List.{map_push}
 use Rattle.vba_base.specs.declared.place.Place.{Place}
 use Rattle.vba_lexer.specs.declared.token.Token.{Token}
@@ -19,7 +19,8 @@ use Rattle.bound_project.specs.declared.declarations.Parameter.{Parameter}
 use Rattle.bound_project.specs.declared.node.NodeKind.{NodeKind}
 use Rattle.bound_project.specs.declared.node.NodeKind.TheVariants as kind
 use Rattle.bound_project.specs.declared.node.Node.{Node}
-use Rattle.bound_project.specs.View.{declared_view, parameter_view}
+use Rattle.bound_project.specs.declared.declarations.Declarations.{Declarations}
+use Rattle.bound_project.specs.View.{declarations_view, declared_view, parameter_view}
 use Rattle.bound_project.specs.Expressions.{Exprs}
 use Rattle.bound_project.specs.Expressions as bound
 use Rattle.bound_project.specs.Lists.{above, args_of, exprs_of}
@@ -33,7 +34,8 @@ use Rattle.bound_members.specs.bound_calls.specs.bound_declarations.specs.consta
 use Rattle.bound_members.specs.bound_calls.specs.bound_declarations.specs.constant_values.specs.declared_names.specs.binder.specs.Storage.{bound_parameters}
 use Rattle.bound_members.specs.bound_calls.specs.bound_forms.specs.Terms.{Env, Given, Item as Taken_item, are_apart, bound_arguments, built, by_position, has_names, left_over, listed_values, routine_term, taken_by}
 use Rattle.bound_members.specs.bound_calls.specs.bound_forms.specs.Terms as terms
-use Rattle.bound_members.specs.bound_calls.specs.bound_forms.specs.ExpressionsBound.{argument_of, callee, givens, indexed, operand_of, term_of, term_or, wrong_term, place_told, call_node}
+use Rattle.bound_members.specs.bound_calls.specs.bound_forms.specs.ClassDefaults.{declared_in}
+use Rattle.bound_members.specs.bound_calls.specs.bound_forms.specs.ExpressionsBound.{along_value, argument_of, callee, givens, indexed, operand_of, term_of, term_or, wrong_term, place_told, call_node}
 use Rattle.bound_members.specs.bound_calls.specs.declared.term.Call.{Call}
 use Rattle.bound_members.specs.bound_calls.specs.declared.term.Ending.{Ending}
 use Rattle.bound_members.specs.bound_calls.specs.declared.term.Item.{Item}
@@ -413,7 +415,7 @@ called_gathered env r x values d e ending y place gs xs (g ∷ ns) es between th
     subst P (sym h.ending_is) (record {
       made = call_node s.base r.procedure args;
       is = ap (λ w. indexed env place w (gs ++ g ∷ ns)) s.is ∙ ap (λ w. term_or w (wrong_term env place z (gs ++ g ∷ ns))) (taken_routine env place s.base s.space s.number s.written (gs ++ g ∷ ns)
-          ∙ call_is value (operand_of env) env place (gs ++ g ∷ ns) s.base s.space s.number s.written s.read r.procedure (declared_view r.of) ps args s.reads s.procedure_is s.parameters_are s.of_is some_left given);
+          ∙ call_is value (operand_of env) (along_value env) env place (gs ++ g ∷ ns) s.base s.space s.number s.written s.read r.procedure (declared_view r.of) ps args s.reads s.procedure_is s.parameters_are s.of_is some_left given);
       ends = call_taken e.tables r.receiver s.base r.procedure h.arguments args e.pieces there below s.received on (all_taken h.arguments all e.pieces there count on_top);
     })
 
@@ -421,16 +423,16 @@ pub ending_gathered : (r : Routine) (x : Passed) (values : ℕ) (d e : Drafted) 
 ending_gathered r x values d e ending h = let P : Ending → Type 0 = λ z. NodeNamed e.tables z.kind in subst P (sym h.ending_is) (call_named e.tables r.receiver r.procedure h.arguments)
 
 -- arguments end
-index_stands : (env : Env) (x : Call) (n : ℕ) (ending : Ending) (left right : Token) (xs : List Item) (d e : Drafted) → AllNamed d.tables xs → EndsGathered x.routine x.passed (suc n) d e ending → (is : List nodes.Item) (base : Base)
+index_stands : (env : Env) (x : Call) (n : ℕ) (ending : Ending) (known : Bor Declarations) → declared_in env.scope ≡ declarations_view known.now → (left right : Token) (xs : List Item) (d e : Drafted) → AllNamed d.tables xs → EndsGathered x.routine x.passed (suc n) d e ending → (is : List nodes.Item) (base : Base)
     → Stands env d.tables (with_gathered (suc n) (item.Call x ∷ xs)) is d.pieces base
-    → Stands env e.tables (item.Tree (record { place = x.place; name = None; dotted = None; term = term.Value ending }) ∷ xs) (behind_node (node.Index left right) is) e.pieces base
-index_stands env x n ending left right xs d e k c [] base h = absurd h
-index_stands env x n ending left right xs d e k c (nodes.tree y ∷ is) base h = absurd h
-index_stands env x n ending left right xs d e k c (nodes.arguments args ∷ []) base h =
+    → Stands env e.tables (item.Tree (record { place = x.place; name = None; dotted = None; term = term.Value ending; declared = known }) ∷ xs) (behind_node (node.Index left right) is) e.pieces base
+index_stands env x n ending known told left right xs d e k c [] base h = absurd h
+index_stands env x n ending known told left right xs d e k c (nodes.tree y ∷ is) base h = absurd h
+index_stands env x n ending known told left right xs d e k c (nodes.arguments args ∷ []) base h =
     let u = ungathered env d.tables (suc n) (item.Call x) xs x.passed args [] d.pieces base refl h in absurd u.stands
-index_stands env x n ending left right xs d e k c (nodes.arguments args ∷ nodes.arguments more ∷ is) base h =
+index_stands env x n ending known told left right xs d e k c (nodes.arguments args ∷ nodes.arguments more ∷ is) base h =
     let u = ungathered env d.tables (suc n) (item.Call x) xs x.passed args (nodes.arguments more ∷ is) d.pieces base refl h in absurd u.stands
-index_stands env x n ending left right xs d e k c (nodes.arguments args ∷ nodes.tree y ∷ is) base h =
+index_stands env x n ending known told left right xs d e k c (nodes.arguments args ∷ nodes.tree y ∷ is) base h =
     let u = ungathered env d.tables (suc n) (item.Call x) xs x.passed args (nodes.tree y ∷ is) d.pieces base refl h in
     let s = u.stands.1.0 in
     let p = s.passed in
@@ -441,25 +443,25 @@ index_stands env x n ending left right xs d e k c (nodes.arguments args ∷ node
     let A : List Given → Type 0 = λ l. ValueStands e.tables ending (indexed env (place_told y) z l) e.pieces below in (
       below,
       (
-        tree_ended env e.tables (term.Value ending) x.place y args left right e.pieces below s.place_is
+        tree_ended env e.tables (term.Value ending) x.place known told y args left right e.pieces below s.place_is
             (subst T (sym (routine_item env (place_told y) z s.routine.base s.routine.space s.routine.number s.routine.written s.routine.is)) (subst A (sym u.givens_are)
             (called_gathered env x.routine x.passed (suc n) d e ending z (place_told y) (givens env u.before) p.made u.given u.made u.between s.between below many u.count_is (λ e0. absurd (omega (arith, e0))) c s.routine s.there p.taken p.count_is u.values u.on_top p.on_top))),
         stands_grows env d.tables e.tables c.passes.grown.tables xs k is below base u.stands.1.1,
       ),
     )
 
-index_some : (env : Env) (x : Call) (n : ℕ) (ending : Ending) (left right : Token) (xs : List Item) (d e : Drafted) → (n ≡ 0 → ⊥) → AllNamed d.tables xs → EndsGathered x.routine x.passed n d e ending → (is : List nodes.Item) (base : Base)
+index_some : (env : Env) (x : Call) (n : ℕ) (ending : Ending) (known : Bor Declarations) → declared_in env.scope ≡ declarations_view known.now → (left right : Token) (xs : List Item) (d e : Drafted) → (n ≡ 0 → ⊥) → AllNamed d.tables xs → EndsGathered x.routine x.passed n d e ending → (is : List nodes.Item) (base : Base)
     → Stands env d.tables (with_gathered n (item.Call x ∷ xs)) is d.pieces base
-    → Stands env e.tables (item.Tree (record { place = x.place; name = None; dotted = None; term = term.Value ending }) ∷ xs) (behind_node (node.Index left right) is) e.pieces base
-index_some env x zero ending left right xs d e some k c is base h = absurd (some refl)
-index_some env x (suc n) ending left right xs d e some k c is base h = index_stands env x n ending left right xs d e k c is base h
+    → Stands env e.tables (item.Tree (record { place = x.place; name = None; dotted = None; term = term.Value ending; declared = known }) ∷ xs) (behind_node (node.Index left right) is) e.pieces base
+index_some env x zero ending known told left right xs d e some k c is base h = absurd (some refl)
+index_some env x (suc n) ending known told left right xs d e some k c is base h = index_stands env x n ending known told left right xs d e k c is base h
 
-pub goes_index : (env : Env) (x : Call) (n : ℕ) (ending : Ending) (left right : Token) (xs old new : List Item) (d e : Drafted) → (n ≡ 0 → ⊥) → old ≡ item.Call x ∷ xs
-    → new ≡ item.Tree (record { place = x.place; name = None; dotted = None; term = term.Value ending }) ∷ xs → AllNamed d.tables old → EndsGathered x.routine x.passed n d e ending
+pub goes_index : (env : Env) (x : Call) (n : ℕ) (ending : Ending) (known : Bor Declarations) → declared_in env.scope ≡ declarations_view known.now → (left right : Token) (xs old new : List Item) (d e : Drafted) → (n ≡ 0 → ⊥) → old ≡ item.Call x ∷ xs
+    → new ≡ item.Tree (record { place = x.place; name = None; dotted = None; term = term.Value ending; declared = known }) ∷ xs → AllNamed d.tables old → EndsGathered x.routine x.passed n d e ending
     → Goes env d (with_gathered n old) e new (behind_node (node.Index left right))
-goes_index env x n ending left right xs old new d e some o w k c =
+goes_index env x n ending known told left right xs old new d e some o w k c =
     let g = behind_node (node.Index left right) in
-    let y = item.Tree (record { place = x.place; name = None; dotted = None; term = term.Value ending }) in
+    let y = item.Tree (record { place = x.place; name = None; dotted = None; term = term.Value ending; declared = known }) in
     let N : List Item → Type 0 = λ l. AllNamed d.tables l in
     let A : List Item → Type 0 = λ l. Goes env d (with_gathered n l) e new g in
     let B : List Item → Type 0 = λ l. Goes env d (with_gathered n (item.Call x ∷ xs)) e l g in
@@ -467,5 +469,5 @@ goes_index env x n ending left right xs old new d e some o w k c =
     subst A (sym o) (subst B (sym w) (record {
       grown = c.passes.grown;
       named = (ending_gathered x.routine x.passed n d e ending c, all_named d.tables e.tables c.passes.grown.tables xs all.1);
-      stands = λ is base h. index_some env x n ending left right xs d e some all.1 c is base h;
+      stands = λ is base h. index_some env x n ending known told left right xs d e some all.1 c is base h;
     }))

@@ -17,6 +17,10 @@ use Rattle.bound_project.specs.Lists.{above, exprs_of}
 use Rattle.bound_project.proofs.Lists.{above_push, exprs_are}
 use Rattle.bound_project.specs.Pieces.{Piece, Tables, an_expr, expr_of, exprs_off, of_found}
 use Rattle.bound_project.specs.Drafts.{Drafted}
+use Rattle.bound_project.specs.declared.declarations.Declarations.{Declarations}
+use Rattle.bound_project.specs.Project as project
+use Rattle.bound_project.specs.View.{declarations_view}
+use Rattle.bound_members.specs.bound_calls.specs.bound_forms.specs.ClassDefaults.{declared_in}
 use Rattle.bound_members.specs.bound_calls.specs.bound_forms.specs.Terms.{Env, Given, broken_value, has_names}
 use Rattle.bound_members.specs.bound_calls.specs.bound_forms.specs.ExpressionsBound.{are_numbers, are_places, argument_of, callee, givens, if_there, indexed, item_of, place_told, term_of}
 use Rattle.bound_members.specs.bound_calls.specs.declared.term.Item.{Item}
@@ -263,30 +267,30 @@ refused_value env t x rule count ss b gs made ps between below shaped values cou
       ends = marked_ends t rule (count + values_before x.refuser) place all ps below (omega (arith, counted, u.before_long, length-append u.before made)) (on_top ∙ ap (λ st. above (map an_expr made) st) u.on_top ∙ above_both u.before made below);
     })
 
-abbrev pub closed : Untaken → (rule count : ℕ) → Tree
-closed x rule count = record { place = x.place; name = None; dotted = None; term = term.Value (broken_ending rule x.place (count + values_before x.refuser)) }
+abbrev pub closed : Untaken → (rule count : ℕ) → Bor Declarations → Tree
+closed x rule count known = record { place = x.place; name = None; dotted = None; term = term.Value (broken_ending rule x.place (count + values_before x.refuser)); declared = known }
 
-ends_above : (env : Env) (t : Tables) (x : Untaken) (rule count : ℕ) (ss : List Shape) (left right : Token) (xs : List Item) (args : Args) (is : List nodes.Item) (ps : List Piece) (base : Base) → count ≡ length ss
-    → refused_rule t x.refuser (shapes_given (reverse ss)) ≡ Some rule → Unshaped env t ss x xs args is ps base → Stands env t (item.Tree (closed x rule count) ∷ xs) (behind_node (node.Index left right) (nodes.arguments args ∷ is)) ps base
-ends_above env t x rule count ss left right xs args [] ps base counted breaks u = absurd u.stands
-ends_above env t x rule count ss left right xs args (nodes.arguments more ∷ is) ps base counted breaks u = absurd u.stands
-ends_above env t x rule count ss left right xs args (nodes.tree b ∷ is) ps base counted breaks u =
+ends_above : (env : Env) (t : Tables) (x : Untaken) (rule count : ℕ) (known : Bor Declarations) → declared_in env.scope ≡ declarations_view known.now → (ss : List Shape) (left right : Token) (xs : List Item) (args : Args) (is : List nodes.Item) (ps : List Piece) (base : Base) → count ≡ length ss
+    → refused_rule t x.refuser (shapes_given (reverse ss)) ≡ Some rule → Unshaped env t ss x xs args is ps base → Stands env t (item.Tree (closed x rule count known) ∷ xs) (behind_node (node.Index left right) (nodes.arguments args ∷ is)) ps base
+ends_above env t x rule count known told ss left right xs args [] ps base counted breaks u = absurd u.stands
+ends_above env t x rule count known told ss left right xs args (nodes.arguments more ∷ is) ps base counted breaks u = absurd u.stands
+ends_above env t x rule count known told ss left right xs args (nodes.tree b ∷ is) ps base counted breaks u =
     let s = u.stands in
     let v = refused_value env t x rule count (reverse ss) b (givens env args) u.made ps u.between s.0 u.shaped u.values (u.count_is ∙ sym counted) u.on_top s.1.0 breaks in
-    (s.0, (tree_ended env t (term.Value (broken_ending rule x.place (count + values_before x.refuser))) x.place b args left right ps s.0 s.1.0.place_is v, s.1.1))
+    (s.0, (tree_ended env t (term.Value (broken_ending rule x.place (count + values_before x.refuser))) x.place known told b args left right ps s.0 s.1.0.place_is v, s.1.1))
 
-ends_stands : (env : Env) (t : Tables) (x : Untaken) (rule count : ℕ) (ss : List Shape) (left right : Token) (xs : List Item) → count ≡ length ss → refused_rule t x.refuser (shapes_given (reverse ss)) ≡ Some rule → (is : List nodes.Item) (ps : List Piece) (base : Base)
-    → Stands env t (with_shapes ss (item.Untaken x ∷ xs)) is ps base → Stands env t (item.Tree (closed x rule count) ∷ xs) (behind_node (node.Index left right) is) ps base
-ends_stands env t x rule count [] left right xs counted breaks [] ps base h = absurd h
-ends_stands env t x rule count (s ∷ ss) left right xs counted breaks [] ps base h = absurd h
-ends_stands env t x rule count [] left right xs counted breaks (nodes.tree b ∷ is) ps base h = absurd h
-ends_stands env t x rule count (s ∷ ss) left right xs counted breaks (nodes.tree b ∷ is) ps base h = absurd h
-ends_stands env t x rule count ss left right xs counted breaks (nodes.arguments args ∷ is) ps base h =
-    ends_above env t x rule count ss left right xs args is ps base counted breaks (unshaped env t ss x xs args is ps base h)
+ends_stands : (env : Env) (t : Tables) (x : Untaken) (rule count : ℕ) (known : Bor Declarations) → declared_in env.scope ≡ declarations_view known.now → (ss : List Shape) (left right : Token) (xs : List Item) → count ≡ length ss → refused_rule t x.refuser (shapes_given (reverse ss)) ≡ Some rule → (is : List nodes.Item) (ps : List Piece) (base : Base)
+    → Stands env t (with_shapes ss (item.Untaken x ∷ xs)) is ps base → Stands env t (item.Tree (closed x rule count known) ∷ xs) (behind_node (node.Index left right) is) ps base
+ends_stands env t x rule count known told [] left right xs counted breaks [] ps base h = absurd h
+ends_stands env t x rule count known told (s ∷ ss) left right xs counted breaks [] ps base h = absurd h
+ends_stands env t x rule count known told [] left right xs counted breaks (nodes.tree b ∷ is) ps base h = absurd h
+ends_stands env t x rule count known told (s ∷ ss) left right xs counted breaks (nodes.tree b ∷ is) ps base h = absurd h
+ends_stands env t x rule count known told ss left right xs counted breaks (nodes.arguments args ∷ is) ps base h =
+    ends_above env t x rule count known told ss left right xs args is ps base counted breaks (unshaped env t ss x xs args is ps base h)
 
-pub goes_untaken : (env : Env) (x : Untaken) (shapes : List Shape) (y : Tree) (left right : Token) (xs old below new : List Item) (d : Drafted) → old ≡ with_shapes (reverse shapes) below → below ≡ item.Untaken x ∷ xs → new ≡ item.Tree y ∷ xs
-    → AllNamed d.tables old → ClosesUntaken d x shapes y → Goes env d old d new (behind_node (node.Index left right))
-goes_untaken env x shapes y left right xs old below new d o b n k c =
+pub goes_untaken : (env : Env) (x : Untaken) (shapes : List Shape) (y : Tree) (known : project.Declarations) → declared_in env.scope ≡ known → (left right : Token) (xs old below new : List Item) (d : Drafted) → old ≡ with_shapes (reverse shapes) below → below ≡ item.Untaken x ∷ xs → new ≡ item.Tree y ∷ xs
+    → AllNamed d.tables old → ClosesUntaken known d x shapes y → Goes env d old d new (behind_node (node.Index left right))
+goes_untaken env x shapes y known told left right xs old below new d o b n k c =
     let ss = reverse shapes in
     let count = length shapes in
     let f = behind_node (node.Index left right) in
@@ -300,5 +304,5 @@ goes_untaken env x shapes y left right xs old below new d o b n k c =
     subst A (sym top) (subst B (sym n) (subst C (sym c.is) (record {
       grown = grown_same d;
       named = (tt, all.1);
-      stands = λ is base h. ends_stands env d.tables x c.rule count ss left right xs (sym (length-reverse shapes)) breaks is d.pieces base h;
+      stands = λ is base h. ends_stands env d.tables x c.rule count y.declared (told ∙ c.known_is) ss left right xs (sym (length-reverse shapes)) breaks is d.pieces base h;
     })))

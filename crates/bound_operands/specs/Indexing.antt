@@ -37,6 +37,13 @@ is_along target.ValueAlong = true
 is_along target.ValueAsPlace = true
 is_along x = false
 
+-- and whether they do so by what the default member of a class says
+abbrev pub is_led : Target → Bool
+is_led (target.PlaceLed count) = true
+is_led (target.ValueLed count) = true
+is_led (target.LedAsPlace count) = true
+is_led x = false
+
 -- what arguments index in a value, and the type of that
 abbrev pub HowIndexed : (has : Bool) → Tables → Ending → Target → DeclaredType → Type 0
 HowIndexed has t e target.Value of = HasElements has t e of

@@ -1,4 +1,5 @@
 pub mod Functions
 pub mod Gathering
 pub mod Indexing
+pub mod Leading
 pub mod Untaken

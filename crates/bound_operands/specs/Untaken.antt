@@ -8,7 +8,10 @@ use Rattle.vba_expression.specs.declared.node.ExpressionNode.TheVariants as node
 use Rattle.vba_expression.specs.Nodes as nodes
 use Rattle.vba_expression.specs.Nodes.{behind_node}
 use Rattle.bound_project.specs.Drafts.{Drafted}
+use Rattle.bound_project.specs.Project.{Declarations}
+use Rattle.bound_project.specs.View.{declarations_view}
 use Rattle.bound_members.specs.bound_calls.specs.bound_forms.specs.Terms.{Env}
+use Rattle.bound_members.specs.bound_calls.specs.bound_forms.specs.ClassDefaults.{declared_in}
 use Rattle.bound_members.specs.bound_calls.specs.declared.term.Item.{Item}
 use Rattle.bound_members.specs.bound_calls.specs.declared.term.Item.TheVariants as item
 use Rattle.bound_members.specs.bound_calls.specs.declared.term.Shape.{Shape}
@@ -40,12 +43,13 @@ abbrev pub all_plain : List Shape → Bool
 all_plain ss = list_all is_plain ss
 
 -- what is marked where arguments end that aren't taken
-pub record ClosesUntaken (d : Drafted) (x : Untaken) (ss : List Shape) (y : Tree) : Type 0 where
+pub record ClosesUntaken (known : Declarations) (d : Drafted) (x : Untaken) (ss : List Shape) (y : Tree) : Type 0 where
   pub rule : ℕ
   pub breaks : refused_rule d.tables x.refuser (shapes_given ss) ≡ Some rule
-  pub is : y ≡ record { place = x.place; name = None; dotted = None; term = term.Value (broken_ending rule x.place (length ss + values_before x.refuser)) }
+  pub is : y ≡ record { place = x.place; name = None; dotted = None; term = term.Value (broken_ending rule x.place (length ss + values_before x.refuser)); declared = y.declared }
+  pub known_is : known ≡ declarations_view y.declared.now
 
 -- arguments end that aren't taken, or there are none
-pub record EndsRefused (ended : Bool) (d : Drafted) (old : List Item) (e : Drafted) (new : List Item) : Type 0 where
-  pub yes : ended ≡ true → (env : Env) (left right : Token) → Goes env d old e new (behind_node (node.Index left right))
+pub record EndsRefused (known : Declarations) (ended : Bool) (d : Drafted) (old : List Item) (e : Drafted) (new : List Item) : Type 0 where
+  pub yes : ended ≡ true → (env : Env) → declared_in env.scope ≡ known → (left right : Token) → Goes env d old e new (behind_node (node.Index left right))
   pub no : ended ≡ false → (e ≡ d) × (new ≡ old)

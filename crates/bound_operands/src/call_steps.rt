@@ -3,6 +3,8 @@ ghost use Rattle.vba_lexer.specs.declared.token.Token.{Token};
 ghost use Rattle.vba_expression.specs.declared.node.ExpressionNode.TheVariants as node;
 ghost use Rattle.vba_expression.specs.Nodes.{behind_node};
 ghost use Rattle.bound_project.specs.DraftView.{draft_view};
+ghost use Rattle.bound_project.specs.View.{declarations_view};
+ghost use Rattle.bound_members.specs.bound_calls.specs.bound_forms.specs.ClassDefaults.{declared_in};
 ghost use Rattle.bound_members.specs.bound_calls.specs.bound_forms.specs.Terms as plain;
 ghost use Rattle.bound_members.specs.bound_calls.specs.Calls.{passed_in, with_passed};
 ghost use Rattle.bound_members.specs.bound_calls.specs.Standing.{AllNamed};
@@ -13,7 +15,7 @@ use crate::indexing::{add_argument, end_arguments, skip_argument};
 use crate::untaken::{is_refused, refuse, refuse_missing};
 use bound_members::bound_calls::bound_declarations::NotYet;
 use bound_members::bound_calls::{Call, Item, Passed, put_item, take_item};
-use bound_project::Draft;
+use bound_project::{Declarations, Draft};
 use std::alloc::Global;
 use vba_base::OrMemory;
 
@@ -94,15 +96,16 @@ pub fn step_missing_argument<'a>(
 pub fn step_index<'a>(
     alloc: Global,
     draft: &mut Draft,
+    declared: &'a Declarations,
     stack: &mut Vec<Item<'a>>,
 ) -> Result<(), OrMemory<NotYet>>
     requires { AllNamed (draft_view draft.old).tables (reverse stack.old.items) }
-    ensures { OnOk result ((env : plain.Env) (left right : Token) → Goes env (draft_view draft.old) (reverse stack.old.items) (draft_view draft.new) (reverse stack.new.items) (behind_node (node.Index left right))) }
+    ensures { OnOk result ((env : plain.Env) → declared_in env.scope ≡ declarations_view declared.now → (left right : Token) → Goes env (draft_view draft.old) (reverse stack.old.items) (draft_view draft.new) (reverse stack.new.items) (behind_node (node.Index left right))) }
 {
     let Some(item) = take_item(stack) else {
         return Err(OrMemory::NoMemory);
     };
-    let tree = end_arguments(alloc, draft, item)?;
+    let tree = end_arguments(alloc, draft, declared, item)?;
     put_item(stack, Item::Tree(tree))?;
     Ok(())
 }

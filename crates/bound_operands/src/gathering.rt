@@ -5,7 +5,8 @@ ghost use Rattle.vba_lexer.specs.declared.token.Token.{Token};
 ghost use Rattle.vba_expression.specs.declared.node.ExpressionNode.TheVariants as node;
 ghost use Rattle.vba_expression.specs.Nodes.{behind_node};
 ghost use Rattle.bound_project.specs.DraftView.{draft_view};
-ghost use Rattle.bound_project.specs.View.{parameter_view};
+ghost use Rattle.bound_project.specs.View.{declarations_view, parameter_view};
+ghost use Rattle.bound_members.specs.bound_calls.specs.bound_forms.specs.ClassDefaults.{declared_in};
 ghost use Rattle.bound_members.specs.bound_calls.specs.bound_forms.specs.Terms as plain;
 ghost use Rattle.bound_members.specs.bound_calls.specs.Standing.{AllNamed, is_gathering};
 ghost use Rattle.bound_members.specs.bound_calls.specs.Steps.{Goes};
@@ -16,7 +17,7 @@ use bound_members::bound_calls::{
     Ending, Item, Passed, Routine, Term, Tree, call_kind, count_of, nowhere, pass_rest,
     push_argument, push_node, put_item, sum, take_item,
 };
-use bound_project::{DeclaredType, Draft, ElementType, NodeKind, Parameter};
+use bound_project::{Declarations, DeclaredType, Draft, ElementType, NodeKind, Parameter};
 use std::alloc::Global;
 use vba_base::{NoMemory, OrMemory};
 
@@ -145,12 +146,13 @@ pub fn gathered_ending<'a>(
 pub fn index_gathered<'a>(
     alloc: Global,
     draft: &mut Draft,
+    declared: &'a Declarations,
     stack: &mut Vec<Item<'a>>,
     values: u32,
 ) -> Result<(), OrMemory<NotYet>>
     requires named { AllNamed (draft_view draft.old).tables (reverse stack.old.items) }
     requires some { values ≢ 0 }
-    ensures { OnOk result ((env : plain.Env) (left right : Token) → Goes env (draft_view draft.old) (with_gathered values (reverse stack.old.items)) (draft_view draft.new) (reverse stack.new.items) (behind_node (node.Index left right))) }
+    ensures { OnOk result ((env : plain.Env) → declared_in env.scope ≡ declarations_view declared.now → (left right : Token) → Goes env (draft_view draft.old) (with_gathered values (reverse stack.old.items)) (draft_view draft.new) (reverse stack.new.items) (behind_node (node.Index left right))) }
 {
     let Some(Item::Call(call)) = take_item(stack) else {
         return Err(OrMemory::Fault(NotYet));
@@ -163,6 +165,7 @@ pub fn index_gathered<'a>(
             name: None,
             dotted: None,
             term: Term::Value(ending),
+            declared,
         }),
     )?;
     Ok(())

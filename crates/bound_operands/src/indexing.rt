@@ -4,7 +4,7 @@
 ghost use Rattle.std.specs.Prelude.{◌≡◌, ◌<◌, false, true, Bool, IfOk, IfSome, option_map};
 ghost use Rattle.bound_project.specs.DraftView.{draft_view};
 ghost use Rattle.bound_project.specs.Drafts.{Drafted, NodeNamed};
-ghost use Rattle.bound_project.specs.View.{declared_view};
+ghost use Rattle.bound_project.specs.View.{declarations_view, declared_view};
 ghost use Rattle.bound_members.specs.bound_calls.specs.bound_forms.specs.ExpressionsBound.{element_type};
 ghost use Rattle.bound_members.specs.bound_calls.specs.bound_forms.specs.Terms as plain;
 ghost use Rattle.bound_members.specs.bound_calls.specs.bound_declarations.specs.constant_values.specs.declared_names.specs.binder.specs.Classes as classes;
@@ -13,17 +13,18 @@ ghost use Rattle.bound_members.specs.bound_calls.specs.Indexing.{AddsArgument, A
 ghost use Rattle.bound_members.specs.bound_calls.specs.Standing.{ItemNamed, TermNamed};
 ghost use Rattle.bound_members.specs.bound_calls.specs.References.{IsFoundLate};
 ghost use Rattle.bound_members.specs.bound_calls.specs.Taking.{read_kind};
-ghost use Rattle.bound_operands.specs.Indexing.{HasElements, PushesAlong, PushesAsPlace, PushesWhole, is_along};
+ghost use Rattle.bound_operands.specs.Indexing.{HasElements, PushesAlong, PushesAsPlace, PushesWhole, is_along, is_led};
 
 use crate::call_steps::{passed_in, with_passed};
-use crate::functions::{Taking, add_missing_value, add_value, close_function, push_marked};
+use crate::functions::{add_missing_value, add_value, close_function};
+use crate::leading::{is_led, place_led, push_leading, value_led};
 use bound_members::bound_calls::bound_declarations::NotYet;
 use bound_members::bound_calls::{
     Call, Ending, Indexed, Item, Passed, Routine, Target, Term, Tree, call_ending, may_be_instance,
     nowhere, pass_missing, pass_plain, push_node, push_operand, read_kind, sum,
 };
 use bound_members::{add_given, add_missing, close_member, is_known_late};
-use bound_project::{DeclaredType, Draft, ElementType, NodeKind};
+use bound_project::{Declarations, DeclaredType, Draft, ElementType, NodeKind};
 use std::alloc::Global;
 use vba_base::{NoMemory, OrMemory, Place};
 
@@ -293,6 +294,7 @@ fn add_number<'a>(
 ) -> Result<Indexed, OrMemory<NotYet>>
     requires named { TermNamed (draft_view draft.old).tables tree.term }
     requires plain { is_along indexed.target ≡ false }
+    requires unled { is_led indexed.target ≡ false }
     ensures { IfOk result (λ more. AddsArgument (Item.Indexed indexed) tree.entry (draft_view draft.old) (draft_view draft.new) (Item.Indexed more)) }
 {
     let count = sum(indexed.count, 1)?;
@@ -314,7 +316,23 @@ fn add_along<'a>(
     ensures { IfOk result (λ more. AddsArgument (Item.Indexed indexed) tree.entry (draft_view draft.old) (draft_view draft.new) (Item.Indexed more)) }
 {
     let count = sum(indexed.count, 1)?;
-    push_marked(alloc, draft, Taking::ByDefault, tree)?;
+    push_leading(alloc, draft, tree)?;
+    Ok(Indexed { count, ..indexed })
+}
+
+/// The same behind an object of a class.
+fn add_led<'a>(
+    alloc: Global,
+    draft: &mut Draft,
+    indexed: Indexed,
+    tree: Tree<'a>,
+) -> Result<Indexed, OrMemory<NotYet>>
+    requires named { TermNamed (draft_view draft.old).tables tree.term }
+    requires led { is_led indexed.target ≡ true }
+    ensures { IfOk result (λ more. AddsArgument (Item.Indexed indexed) tree.entry (draft_view draft.old) (draft_view draft.new) (Item.Indexed more)) }
+{
+    let count = sum(indexed.count, 1)?;
+    push_leading(alloc, draft, tree)?;
     Ok(Indexed { count, ..indexed })
 }
 
@@ -330,6 +348,9 @@ fn add_index<'a>(
 {
     if is_along(indexed.target) {
         return add_along(alloc, draft, indexed, tree);
+    }
+    if is_led(indexed.target) {
+        return add_led(alloc, draft, indexed, tree);
     }
     add_number(alloc, draft, indexed, tree)
 }
@@ -471,7 +492,10 @@ fn element<'a>(indexed: Indexed) -> Result<Term<'a>, OrMemory<NotYet>>
             kind: NodeKind::ItemAlong { arguments: numbers },
             of,
         })),
+        Target::PlaceLed(count) => place_led(indexed, count),
+        Target::ValueLed(count) => value_led(indexed, count),
         Target::ValueAsPlace => Err(OrMemory::Fault(NotYet)),
+        Target::LedAsPlace(_count) => Err(OrMemory::Fault(NotYet)),
     }
 }
 
@@ -489,9 +513,10 @@ fn close_indexed<'a>(indexed: Indexed) -> Result<Term<'a>, OrMemory<NotYet>>
 fn close_call<'a>(
     alloc: Global,
     draft: &mut Draft,
+    declared: &'a Declarations,
     call: Call<'a>,
 ) -> Result<Tree<'a>, OrMemory<NotYet>>
-    ensures { IfOk result (λ tree. Closes (Item.Call call.entry) (draft_view draft.old) (draft_view draft.new) tree) }
+    ensures { IfOk result (λ tree. Closes (declarations_view declared.now) (Item.Call call.entry) (draft_view draft.old) (draft_view draft.new) tree) }
 {
     let ending = call_ending(alloc, draft, call.routine, call.passed)?;
     Ok(Tree {
@@ -499,6 +524,7 @@ fn close_call<'a>(
         name: None,
         dotted: None,
         term: Term::Value(ending),
+        declared,
     })
 }
 
@@ -506,10 +532,11 @@ fn close_call<'a>(
 pub fn end_arguments<'a>(
     alloc: Global,
     draft: &mut Draft,
+    declared: &'a Declarations,
     item: Item<'a>,
 ) -> Result<Tree<'a>, OrMemory<NotYet>>
     requires { ItemNamed (draft_view draft.old).tables item }
-    ensures { IfOk result (λ tree. Closes item.entry (draft_view draft.old) (draft_view draft.new) tree) }
+    ensures { IfOk result (λ tree. Closes (declarations_view declared.now) item.entry (draft_view draft.old) (draft_view draft.new) tree) }
 {
     match item {
         Item::Member(call) => {
@@ -519,9 +546,10 @@ pub fn end_arguments<'a>(
                 name: None,
                 dotted: None,
                 term,
+                declared,
             })
         }
-        Item::Call(call) => close_call(alloc, draft, call),
+        Item::Call(call) => close_call(alloc, draft, declared, call),
         Item::Indexed(indexed) => {
             let term = close_indexed(indexed)?;
             Ok(Tree {
@@ -529,6 +557,7 @@ pub fn end_arguments<'a>(
                 name: None,
                 dotted: None,
                 term,
+                declared,
             })
         }
         Item::Function(call) => {
@@ -538,6 +567,7 @@ pub fn end_arguments<'a>(
                 name: None,
                 dotted: None,
                 term,
+                declared,
             })
         }
         _ => Err(OrMemory::NoMemory),

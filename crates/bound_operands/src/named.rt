@@ -7,7 +7,8 @@ ghost use Rattle.vba_words.specs.declared.identifier.Identifier as identifier;
 ghost use Rattle.vba_expression.specs.declared.node.ExpressionNode.TheVariants as node;
 ghost use Rattle.vba_expression.specs.Nodes.{behind_node};
 ghost use Rattle.bound_project.specs.DraftView.{draft_view};
-ghost use Rattle.bound_project.specs.View.{parameter_view};
+ghost use Rattle.bound_project.specs.View.{declarations_view, parameter_view};
+ghost use Rattle.bound_members.specs.bound_calls.specs.bound_forms.specs.ClassDefaults.{declared_in};
 ghost use Rattle.bound_members.specs.bound_calls.specs.bound_forms.specs.Terms as plain;
 ghost use Rattle.bound_members.specs.bound_calls.specs.InOrder.{found_view, is_named, with_named};
 ghost use Rattle.bound_members.specs.bound_calls.specs.Standing.{AllNamed, passed_below};
@@ -23,7 +24,7 @@ use bound_members::bound_calls::{
     FunctionCall, Item, MemberCall, Named, Passed, Term, Tree, named_ending, pass_tree, put_item,
     sum, take_item, take_numbers,
 };
-use bound_project::{Draft, Parameter};
+use bound_project::{Declarations, Draft, Parameter};
 use std::alloc::Global;
 use vba_base::{NoMemory, OrMemory};
 use vba_words::Identifier;
@@ -156,12 +157,13 @@ pub fn step_named_argument<'a>(
 fn index_named<'a>(
     alloc: Global,
     draft: &mut Draft,
+    declared: &'a Declarations,
     stack: &mut Vec<Item<'a>>,
     named: Vec<u32>,
 ) -> Result<(), OrMemory<NotYet>>
     requires named { AllNamed (draft_view draft.old).tables (reverse stack.old.items) }
     requires some { named.items ≢ [] }
-    ensures { OnOk result ((env : plain.Env) (left right : Token) → Goes env (draft_view draft.old) (with_named named.items (reverse stack.old.items)) (draft_view draft.new) (reverse stack.new.items) (behind_node (node.Index left right))) }
+    ensures { OnOk result ((env : plain.Env) → declared_in env.scope ≡ declarations_view declared.now → (left right : Token) → Goes env (draft_view draft.old) (with_named named.items (reverse stack.old.items)) (draft_view draft.new) (reverse stack.new.items) (behind_node (node.Index left right))) }
 {
     let Some(Item::Call(call)) = take_item(stack) else {
         return Err(OrMemory::Fault(NotYet));
@@ -174,6 +176,7 @@ fn index_named<'a>(
             name: None,
             dotted: None,
             term: Term::Value(ending),
+            declared,
         }),
     )?;
     Ok(())
@@ -183,33 +186,35 @@ fn index_named<'a>(
 fn end_index<'a>(
     alloc: Global,
     draft: &mut Draft,
+    declared: &'a Declarations,
     stack: &mut Vec<Item<'a>>,
 ) -> Result<(), OrMemory<NotYet>>
     requires { AllNamed (draft_view draft.old).tables (reverse stack.old.items) }
-    ensures { OnOk result ((env : plain.Env) (left right : Token) → Goes env (draft_view draft.old) (reverse stack.old.items) (draft_view draft.new) (reverse stack.new.items) (behind_node (node.Index left right))) }
+    ensures { OnOk result ((env : plain.Env) → declared_in env.scope ≡ declarations_view declared.now → (left right : Token) → Goes env (draft_view draft.old) (reverse stack.old.items) (draft_view draft.new) (reverse stack.new.items) (behind_node (node.Index left right))) }
 {
     let named = take_numbers(alloc, stack)?;
     if named.is_empty() {
-        return call_steps::step_index(alloc, draft, stack);
+        return call_steps::step_index(alloc, draft, declared, stack);
     }
-    index_named(alloc, draft, stack, named)
+    index_named(alloc, draft, declared, stack, named)
 }
 
 /// Arguments end: a call, or an element.
 pub fn step_index<'a>(
     alloc: Global,
     draft: &mut Draft,
+    declared: &'a Declarations,
     stack: &mut Vec<Item<'a>>,
 ) -> Result<(), OrMemory<NotYet>>
     requires { AllNamed (draft_view draft.old).tables (reverse stack.old.items) }
-    ensures { OnOk result ((env : plain.Env) (left right : Token) → Goes env (draft_view draft.old) (reverse stack.old.items) (draft_view draft.new) (reverse stack.new.items) (behind_node (node.Index left right))) }
+    ensures { OnOk result ((env : plain.Env) → declared_in env.scope ≡ declarations_view declared.now → (left right : Token) → Goes env (draft_view draft.old) (reverse stack.old.items) (draft_view draft.new) (reverse stack.new.items) (behind_node (node.Index left right))) }
 {
-    if index_untaken(alloc, draft, stack)? {
+    if index_untaken(alloc, draft, declared, stack)? {
         return Ok(());
     }
     let values = take_gathered(stack)?;
     if values == 0 {
-        return end_index(alloc, draft, stack);
+        return end_index(alloc, draft, declared, stack);
     }
-    index_gathered(alloc, draft, stack, values)
+    index_gathered(alloc, draft, declared, stack, values)
 }

@@ -4,7 +4,9 @@ ghost use Rattle.vba_expression.specs.declared.node.ExpressionNode.TheVariants a
 ghost use Rattle.vba_expression.specs.declared.operator.BinaryOperator.TheVariants as operators;
 ghost use Rattle.vba_expression.specs.Nodes.{behind_node};
 ghost use Rattle.bound_project.specs.DraftView.{draft_view};
+ghost use Rattle.bound_project.specs.View.{declarations_view};
 ghost use Rattle.bound_members.specs.bound_calls.specs.bound_declarations.specs.constant_values.specs.declared_names.specs.binder.specs.Constants.{compare_in};
+ghost use Rattle.bound_members.specs.bound_calls.specs.bound_forms.specs.ClassDefaults.{declared_in};
 ghost use Rattle.bound_members.specs.bound_calls.specs.bound_forms.specs.Terms as plain;
 ghost use Rattle.bound_members.specs.bound_calls.specs.Standing.{AllNamed};
 ghost use Rattle.bound_members.specs.bound_calls.specs.Steps.{Goes, is_same};
@@ -16,7 +18,7 @@ use bound_members::bound_calls::{
     Ending, Item, Operand, Term, Tree, given_ending, push_operand, push_reference, put_item,
     settle, take_item, value_term,
 };
-use bound_project::{DeclaredType, Draft, ElementType, NodeKind};
+use bound_project::{Declarations, DeclaredType, Draft, ElementType, NodeKind};
 use std::alloc::Global;
 use vba_base::OrMemory;
 use vba_expression::{BinaryOperator, Literal, UnaryOperator};
@@ -27,12 +29,13 @@ use vba_values::Compare;
 pub fn step_literal<'a>(
     alloc: Global,
     draft: &mut Draft,
+    declared: &'a Declarations,
     stack: &mut Vec<Item<'a>>,
     is_reference: bool,
     literal: &Literal,
 ) -> Result<(), OrMemory<NotYet>>
     requires { AllNamed (draft_view draft.old).tables (reverse stack.old.items) }
-    ensures { OnOk result ((env : plain.Env) → Goes env (draft_view draft.old) (reverse stack.old.items) (draft_view draft.new) (reverse stack.new.items) (behind_node (node.Literal literal.now))) }
+    ensures { OnOk result ((env : plain.Env) → declared_in env.scope ≡ declarations_view declared.now → Goes env (draft_view draft.old) (reverse stack.old.items) (draft_view draft.new) (reverse stack.new.items) (behind_node (node.Literal literal.now))) }
 {
     settle(alloc, draft, stack, is_reference)?;
     let value = literal_meant(alloc, &literal.value)?;
@@ -45,6 +48,7 @@ pub fn step_literal<'a>(
             name: None,
             dotted: None,
             term,
+            declared,
         }),
     )?;
     Ok(())
@@ -63,7 +67,7 @@ pub fn step_parenthesised<'a>(
         return Err(OrMemory::NoMemory);
     };
     let place = tree.place;
-    let ending = given_ending(alloc, draft, tree)?;
+    let ending = given_ending(alloc, draft, tree.term, tree.place)?;
     put_item(
         stack,
         Item::Tree(Tree {
@@ -71,6 +75,7 @@ pub fn step_parenthesised<'a>(
             name: None,
             dotted: None,
             term: Term::Value(ending),
+            declared: tree.declared,
         }),
     )?;
     Ok(())
@@ -99,6 +104,7 @@ pub fn step_unary<'a>(
             name: None,
             dotted: None,
             term,
+            declared: tree.declared,
         }),
     )?;
     Ok(())
@@ -157,6 +163,7 @@ fn step_same<'a>(
                 kind: NodeKind::Same,
                 of: DeclaredType::Plain(ElementType::Boolean),
             }),
+            declared: right.declared,
         }),
     )?;
     Ok(())
@@ -193,6 +200,7 @@ fn step_operands<'a>(
             name: None,
             dotted: None,
             term,
+            declared: right.declared,
         }),
     )?;
     Ok(())

@@ -1,13 +1,14 @@
 //! Arguments that aren't taken: each is pushed as a Variant takes it, and where they end what is written with them is marked
 //! as what breaks a static rule.
 
-ghost use Rattle.std.specs.Prelude.{◌≡◌, ◌∷◌, true, IfOk, OnOk, Option, length, reverse};
+ghost use Rattle.std.specs.Prelude.{◌≡◌, ◌∷◌, ◌==◌, ◌&&◌, true, IfOk, None, OnOk, Option, Some, if◌then◌else◌, length, reverse};
 ghost use Rattle.vba_lexer.specs.declared.token.Token.{Token};
 ghost use Rattle.vba_expression.specs.declared.node.ExpressionNode.TheVariants as node;
 ghost use Rattle.vba_expression.specs.Nodes.{behind_node};
 ghost use Rattle.bound_project.specs.DraftView.{draft_view};
-ghost use Rattle.bound_project.specs.View.{declared_view};
+ghost use Rattle.bound_project.specs.View.{declarations_view, declared_view};
 ghost use Rattle.bound_members.specs.bound_calls.specs.bound_forms.specs.ExpressionsBound as bound;
+ghost use Rattle.bound_members.specs.bound_calls.specs.bound_forms.specs.ClassDefaults.{declared_in};
 ghost use Rattle.bound_members.specs.bound_calls.specs.bound_forms.specs.Terms as plain;
 ghost use Rattle.bound_members.specs.bound_calls.specs.Shapes.{shapes_given};
 ghost use Rattle.bound_members.specs.bound_calls.specs.Standing.{AllNamed, refused_rule, values_before};
@@ -21,7 +22,7 @@ use bound_members::bound_calls::{
     put_item, sum, take_item, take_shapes, takes,
 };
 use bound_members::{arguments_rule, member_takes};
-use bound_project::{DeclaredType, Draft, ElementType, NodeKind};
+use bound_project::{Declarations, DeclaredType, Draft, ElementType, NodeKind};
 use std::alloc::Global;
 use vba_base::{NoMemory, OrMemory};
 use vba_words::Identifier;
@@ -47,7 +48,7 @@ fn all_plain<'a>(shapes: &[Shape<'a>]) -> bool
 
 #[tactic(auto, using(crate::proofs::Untaking::places_are))]
 /// Are arguments numbers of an element: some, of which none has a name or isn't written?
-fn are_places<'a>(shapes: &[Shape<'a>]) -> bool
+pub fn are_places<'a>(shapes: &[Shape<'a>]) -> bool
     ensures { result ≡ bound.are_places (shapes_given shapes.now) }
 {
     all_plain(shapes) && !shapes.is_empty()
@@ -84,8 +85,25 @@ pub fn refused_rule<'a>(
             }
             return Ok(arguments_rule(member));
         }
+        Refuser::Led { rule, count } => return led_rule(rule, count, shapes),
     };
     Ok(if takes { None } else { Some(25) })
+}
+
+/// A rule where both hold.
+fn rule_if(one: bool, other: bool, rule: u8) -> Option<u8>
+    ensures { result ≡ (if one && other then Some rule else None) }
+{
+    if one && other { Some(rule) } else { None }
+}
+
+/// The rule that so many arguments break which are all written, without names; none where these are others.
+fn led_rule<'a>(rule: u8, count: u32, shapes: &[Shape<'a>]) -> Result<Option<u8>, NoMemory>
+    ensures { IfOk result (λ found. found ≡ (if bound.are_places (shapes_given shapes.now) && (length (shapes_given shapes.now) == count) then Some rule else None)) }
+{
+    let long = count_shapes(shapes)?;
+    let are_numbers = are_places(shapes);
+    Ok(rule_if(are_numbers, long == count, rule))
 }
 
 /// Is an argument behind this item one of what doesn't take it?
@@ -167,6 +185,7 @@ fn values_before<'a>(refuser: Refuser<'a>) -> u32
         Refuser::Value(_) => 1,
         Refuser::Called(_) => 1,
         Refuser::Member(_) => 1,
+        Refuser::Led { .. } => 1,
         _ => 0,
     }
 }
@@ -175,10 +194,11 @@ fn values_before<'a>(refuser: Refuser<'a>) -> u32
 fn close_untaken<'a>(
     alloc: Global,
     draft: &Draft,
+    declared: &'a Declarations,
     untaken: Untaken<'a>,
     shapes: &[Shape<'a>],
 ) -> Result<Tree<'a>, OrMemory<NotYet>>
-    ensures { IfOk result (λ tree. ClosesUntaken (draft_view draft.now) untaken.entry shapes.now tree) }
+    ensures { IfOk result (λ tree. ClosesUntaken (declarations_view declared.now) (draft_view draft.now) untaken.entry shapes.now tree) }
 {
     let Some(rule) = refused_rule(alloc, draft, untaken.refuser, shapes)? else {
         return Err(OrMemory::Fault(NotYet));
@@ -190,6 +210,7 @@ fn close_untaken<'a>(
         name: None,
         dotted: None,
         term: Term::Value(broken_ending(rule, untaken.place, values)),
+        declared,
     })
 }
 
@@ -197,15 +218,16 @@ fn close_untaken<'a>(
 pub fn index_untaken<'a>(
     alloc: Global,
     draft: &Draft,
+    declared: &'a Declarations,
     stack: &mut Vec<Item<'a>>,
 ) -> Result<bool, OrMemory<NotYet>>
     requires { AllNamed (draft_view draft.now).tables (reverse stack.old.items) }
-    ensures { IfOk result (λ ended. EndsRefused ended (draft_view draft.now) (reverse stack.old.items) (draft_view draft.now) (reverse stack.new.items)) }
+    ensures { IfOk result (λ ended. EndsRefused (declarations_view declared.now) ended (draft_view draft.now) (reverse stack.old.items) (draft_view draft.now) (reverse stack.new.items)) }
 {
     let shapes = take_shapes(alloc, stack)?;
     match take_item(stack) {
         Some(Item::Untaken(untaken)) => {
-            let tree = close_untaken(alloc, draft, untaken, &shapes)?;
+            let tree = close_untaken(alloc, draft, declared, untaken, &shapes)?;
             put_item(stack, Item::Tree(tree))?;
             Ok(true)
         }

@@ -17,7 +17,7 @@ use Rattle.declared_names.specs.binder.specs.Scopes.{Space, Scope, first_at, is_
 use Rattle.declared_names.specs.binder.specs.Storage.{bound_parameter, bound_parameters, takes_value}
 use Rattle.bound_accesses.specs.bound_names.specs.bound_members.specs.bound_calls.specs.bound_forms.specs.Terms.{Env, a_routine, a_value, bound_arguments, expression_of, a_method, routine_term}
 use Rattle.bound_accesses.specs.bound_names.specs.bound_members.specs.bound_calls.specs.bound_forms.specs.Terms as terms
-use Rattle.bound_accesses.specs.bound_names.specs.bound_members.specs.bound_calls.specs.bound_forms.specs.ExpressionsBound.{argument_of, bare_call, call_value, call_with, callee, if_there, indexed, indexed_value, node_or, operand_of, taken_by_term, term_of, term_or, wrong_term, place_told}
+use Rattle.bound_accesses.specs.bound_names.specs.bound_members.specs.bound_calls.specs.bound_forms.specs.ExpressionsBound.{along_value, argument_of, bare_call, call_value, call_with, callee, if_there, indexed, indexed_value, node_or, operand_of, taken_by_term, term_of, term_or, wrong_term, place_told}
 use Rattle.declared_names.specs.binder.specs.Signatures.{is_get, is_property, parameters_in, procedure_with, reader}
 use Rattle.declared_names.specs.View.{written_view}
 use Rattle.bound_accesses.specs.bound_names.specs.bound_members.specs.bound_calls.specs.declared.term.Ending.{Ending}
@@ -103,14 +103,14 @@ property_value env base space number w read made of reads none call =
     let bare_is : bare_call env base space number w ≡ bare read = ap (λ (o : Option (ℕ × Written)). if_there (option_map bare o)) reads in
     ap (λ (ps : List project.Parameter). call_value env base space read.0 read.1 (bound_arguments no_value ps [])) (sym none) ∙ sym bare_is ∙ call
 
-property_indexed : (env : Env) (place : Place) (z : terms.Term) (base : Option bound.Expr) (space : Space) (number : ℕ) (w : Written) (read : ℕ × Written) (made : bound.Node) (of : Declared)
+pub property_indexed : (env : Env) (place : Place) (z : terms.Term) (base : Option bound.Expr) (space : Space) (number : ℕ) (w : Written) (read : ℕ × Written) (made : bound.Node) (of : Declared)
     → z ≡ routine_term base space number w → reader env.scope space number w ≡ Some read → is_get read.1.kind ≡ true → parameters_in env.scope space read.1 ≡ [] → bare_call env base space number w ≡ a_value made of → IndexedAs env place z made of
 property_indexed env place z base space number w read made of is reads get none call = λ g gs node u h.
-    let index : bound.Node → Declared → terms.Term = λ (n : bound.Node) (v : Declared). indexed_value (operand_of env) env place n v (g ∷ gs) in
+    let index : bound.Node → Declared → terms.Term = λ (n : bound.Node) (v : Declared). indexed_value (operand_of env) (along_value env) env place n v (g ∷ gs) in
     let called_as : ℕ × Written → terms.Term = λ (f : ℕ × Written).
     if is_get f.1.kind && length f.1.parameters == 0 then node_or (call_value env base space f.0 f.1 (Some bound.no_args)) index
     else call_value env base space f.0 f.1 (bound_arguments (argument_of env) (parameters_in env.scope space f.1) (g ∷ gs)) in
-    let found : call_with (argument_of env) (operand_of env) env place (g ∷ gs) base space number w ≡ called_as read = ap (λ (o : Option (ℕ × Written)). if_there (option_map called_as o)) reads in
+    let found : call_with (argument_of env) (operand_of env) (along_value env) env place (g ∷ gs) base space number w ≡ called_as read = ap (λ (o : Option (ℕ × Written)). if_there (option_map called_as o)) reads in
     let value_is : call_value env base space read.0 read.1 (Some bound.no_args) ≡ a_value made of = property_value env base space number w read made of reads none call in
     let no_parameters : (length read.1.parameters == 0) ≡ true = none_written (scope_in (home env.scope space) read.1) (takes_value read.1.kind) read.1.parameters none in
     let rest : terms.Term = call_value env base space read.0 read.1 (bound_arguments (argument_of env) (parameters_in env.scope space read.1) (g ∷ gs)) in

@@ -13,7 +13,7 @@ use Rattle.bound_project.specs.declared.node.NodeKind.{NodeKind}
 use Rattle.bound_project.specs.declared.declared_type.DeclaredType.{DeclaredType}
 use Rattle.bound_project.specs.declared.declarations.Parameter.{Parameter as ParameterHere}
 use Rattle.bound_project.specs.View.{declared_view, parameter_view}
-use Rattle.bound_project.specs.Expressions.{Exprs, Lvalue, also, element_along, element_value, host_member, late_item, named_member}
+use Rattle.bound_project.specs.Expressions.{Exprs, Lvalue, also, element_value, host_member, named_member}
 use Rattle.bound_project.specs.Expressions as bound
 use Rattle.bound_project.specs.Project as project
 use Rattle.bound_project.specs.Lists.{above}
@@ -29,7 +29,9 @@ use Rattle.declared_names.specs.binder.specs.Options.{from_two}
 use Rattle.declared_names.specs.binder.specs.Storage.{bound_parameters, takes_value}
 use Rattle.bound_accesses.specs.bound_names.specs.bound_members.specs.bound_calls.specs.bound_forms.specs.Terms.{Env, Given, HostMember, a_value, bound_arguments, expression_of, has_names, no_term, read_of, routine_term, takes}
 use Rattle.bound_accesses.specs.bound_names.specs.bound_members.specs.bound_calls.specs.bound_forms.specs.Terms as terms
-use Rattle.bound_accesses.specs.bound_names.specs.bound_members.specs.bound_calls.specs.bound_forms.specs.ExpressionsBound.{along_of, argument_of, arguments_rule, bare_call, behind_base, call_value, call_with, callee, element_place, element_type, host_called, if_there, indexed, indexed_type, indexed_value, indexes_value, is_called_late, is_found_late, is_host_type, item_of, late_called, may_be_instance, may_index, member_called, member_takes, names_taken, node_or, numbers_of, object_member, operand_of, place_told, takes_arguments, term_of, term_or, variant_arguments, with_type, wrong_arguments, wrong_call, wrong_index, wrong_term}
+use Rattle.bound_accesses.specs.bound_names.specs.bound_members.specs.bound_calls.specs.bound_forms.specs.ClassDefaults.{breaks, class_led, declared_in}
+use Rattle.bound_accesses.specs.bound_names.specs.bound_members.specs.bound_calls.specs.class_defaults.specs.Items.{ArePlain}
+use Rattle.bound_accesses.specs.bound_names.specs.bound_members.specs.bound_calls.specs.bound_forms.specs.ExpressionsBound.{along_type, along_value, are_places, argument_of, arguments_rule, bare_call, behind_base, call_value, call_with, callee, element_place, element_type, host_called, if_there, indexed, indexed_place, indexed_value, indexes_value, is_called_late, is_found_late, is_host_type, item_of, late_called, may_be_instance, may_index, member_called, member_takes, names_taken, node_or, numbers_of, object_member, operand_of, place_told, takes_arguments, term_of, term_or, variant_arguments, with_type, wrong_arguments, wrong_call, wrong_index, wrong_term}
 use Rattle.bound_accesses.specs.bound_names.specs.bound_members.specs.bound_calls.specs.declared.term.Ending.{Ending}
 use Rattle.declared_names.specs.View.{written_view}
 use Rattle.bound_accesses.specs.bound_names.specs.bound_members.specs.bound_calls.specs.declared.term.HostMember.{HostMember as MemberHere}
@@ -46,6 +48,7 @@ use Rattle.bound_accesses.specs.bound_names.specs.bound_members.specs.bound_call
 use Rattle.bound_accesses.specs.bound_names.specs.bound_members.specs.bound_calls.specs.Indexing.{OpensTerm}
 use Rattle.bound_accesses.specs.bound_names.specs.bound_members.specs.bound_calls.specs.Taking.{CallsRoutine, read_kind}
 use Rattle.bound_accesses.specs.bound_names.specs.bound_members.specs.MemberCalls.{OpensMember}
+use Rattle.bound_operands.proofs.LedItems.{led_broken, places_many, value_broken_of}
 use Rattle.bound_terms.specs.Indexing.{IndexesValue, NotIndexed, OpensItem, untaken_at}
 use Rattle.bound_terms.proofs.IndexedProperties.{none_written, property_value, read_get, same_routine}
 use Rattle.bound_accesses.specs.bound_names.specs.bound_members.specs.bound_calls.specs.Standing.{Grown, RefuserNamed, RoutineIs, TermStands, behind_values, member_is, refused_rule, values_before}
@@ -113,12 +116,20 @@ not_found env place node type.object gs h = let e : true ≡ false = h in absurd
 not_found env place node (type.class n) gs h = let e : true ≡ false = h in absurd cc
 not_found env place node of gs h = and_right (has_class env.scope.spaces) false refl
 
-not_indexed_value : (env : Env) (place : Place) (made : bound.Node) (of : Declared) (gs : List Given) → may_index of gs ≡ false → indexed_value (operand_of env) env place made of gs ≡ no_term
+-- nor what is of a class
+not_along : (env : Env) (place : Place) (node : bound.Node) (of : Declared) (gs : List Given) → may_index of gs ≡ false → along_type env (expression_of node place of) gs ≡ None
+not_along env place node (type.class n) gs h = let e : true ≡ false = h in absurd cc
+not_along env place node of gs h = ap (λ (b : Bool). if b then Some type.variant else None) (not_found env place node of gs h)
+
+-- so the rule for what is of no class is broken
+wrong_of : (env : Env) (place : Place) (node : bound.Node) (of : Declared) (gs : List Given) → may_index of gs ≡ false → wrong_index env place node of gs ≡ wrong_arguments env place 25 (also (expression_of node place of)) gs
+wrong_of env place node (type.class n) gs h = let e : true ≡ false = h in absurd cc
+wrong_of env place node of gs h = ap (λ (b : Bool). if b then no_term else wrong_arguments env place 25 (also (expression_of node place of)) gs) h
+
+not_indexed_value : (env : Env) (place : Place) (made : bound.Node) (of : Declared) (gs : List Given) → may_index of gs ≡ false → indexed_value (operand_of env) (along_value env) env place made of gs ≡ no_term
 not_indexed_value env place made of gs h =
     let T : Declared → Exprs → terms.Term = λ (u : Declared) (xs : Exprs). a_value (element_value (expression_of made place of) xs) u in
-    let along : terms.Term = if_there (option_map (λ (xs : Exprs). a_value (late_item (expression_of made place of) xs) type.variant) (along_of (operand_of env) gs)) in
-    ap (λ (b : Bool). if b then along else with_type (indexed_type env (expression_of made place of)) (numbers_of (operand_of env) gs) T) (not_found env place made of gs h)
-    ∙ not_numbers_of (may_be_instance env (expression_of made place of)) (operand_of env) of gs T h
+    rw (not_along env place made of gs h) (not_numbers_of (may_be_instance env (expression_of made place of)) (operand_of env) of gs T h)
 
 value_refused : (env : Env) (place : Place) (made : bound.Node) (of : Declared) (gs : List Given) (rule : ℕ) → (if may_index of gs then None else Some 25) ≡ Some rule
     → indexed env place (item_of env place (a_value made of)) gs ≡ wrong_arguments env place rule (also (expression_of made place of)) gs
@@ -127,21 +138,19 @@ value_refused env place made of gs rule h =
     let no_class : Bool = not (may_be_instance env (expression_of made place of)) in
     ap (λ (c : Bool). indexed env place (if c && no_class then object_member place place made of (codes "item") else a_value made of) gs) (not_host of gs b.0)
     ∙ ap (λ (z : terms.Term). term_or z (wrong_term env place (a_value made of) gs)) (not_indexed_value env place made of gs b.0)
-    ∙ ap (λ (c : Bool). if c then no_term else wrong_arguments env place 25 (also (expression_of made place of)) gs) b.0
-    ∙ ap (λ (n : ℕ). wrong_arguments env place n (also (expression_of made place of)) gs) b.1
+    ∙ wrong_of env place made of gs b.0 ∙ ap (λ (n : ℕ). wrong_arguments env place n (also (expression_of made place of)) gs) b.1
 
 place_refused : (env : Env) (place : Place) (at : Lvalue) (of : Declared) (bounded lends makes : Bool) (gs : List Given) (rule : ℕ) → (if may_index of gs then None else Some 25) ≡ Some rule
     → indexed env place (item_of env place (terms.a_place at of bounded lends makes)) gs ≡ wrong_arguments env place rule (also (expression_of (read_of makes at) place of)) gs
 place_refused env place at of bounded lends makes gs rule h =
     let b = broken_by (may_index of gs) rule h in
     let T : Declared → Exprs → terms.Term = λ (u : Declared) (xs : Exprs). terms.a_place (element_place at xs) u false lends false in
-    let along : terms.Term = if_there (option_map (λ (xs : Exprs). terms.a_place (element_along at xs) type.variant false lends false) (along_of (operand_of env) gs)) in
     let wrong = wrong_term env place (terms.a_place at of bounded lends makes) gs in
     let no_class : Bool = not (may_be_instance env (expression_of (read_of makes at) place of)) in
+    let taken : indexed_place env (expression_of (read_of makes at) place of) at lends gs ≡ no_term =
+    rw (not_along env place (read_of makes at) of gs b.0) (not_numbers_of (may_be_instance env (expression_of (read_of makes at) place of)) (operand_of env) of gs T b.0) in
     ap (λ (c : Bool). indexed env place (if c && no_class then object_member place place (read_of makes at) of (codes "item") else terms.a_place at of bounded lends makes) gs) (not_host of gs b.0)
-    ∙ ap (λ (c : Bool). term_or (if c then along else with_type (indexed_type env (expression_of (read_of makes at) place of)) (numbers_of (operand_of env) gs) T) wrong) (not_found env place (read_of makes at) of gs b.0)
-    ∙ ap (λ (z : terms.Term). term_or z wrong) (not_numbers_of (may_be_instance env (expression_of (read_of makes at) place of)) (operand_of env) of gs T b.0)
-    ∙ ap (λ (c : Bool). if c then no_term else wrong_arguments env place 25 (also (expression_of (read_of makes at) place of)) gs) b.0
+    ∙ ap (λ (z : terms.Term). term_or z wrong) taken ∙ wrong_of env place (read_of makes at) of gs b.0
     ∙ ap (λ (n : ℕ). wrong_arguments env place n (also (expression_of (read_of makes at) place of)) gs) b.1
 
 -- what takes no arguments at all
@@ -282,11 +291,11 @@ wrong_routine env place None space number w gs = refl
 wrong_routine env place (Some b) space number w gs = refl
 
 routine_indexed : (env : Env) (place : Place) (z : terms.Term) (base : Option bound.Expr) (space : Space) (number : ℕ) (w : Written) (gs : List Given) → z ≡ routine_term base space number w
-    → indexed env place (item_of env place z) gs ≡ term_or (call_with (argument_of env) (operand_of env) env place gs base space number w) (wrong_call env place base space number w gs)
+    → indexed env place (item_of env place z) gs ≡ term_or (call_with (argument_of env) (operand_of env) (along_value env) env place gs base space number w) (wrong_call env place base space number w gs)
 routine_indexed env place z base space number w gs is =
     let routine : terms.Term = routine_term base space number w in
     ap (λ (y : terms.Term). indexed env place y gs) (routine_item env place z base space number w is ∙ is) ∙ ap (λ (y : terms.Term). term_or y (wrong_term env place routine gs)) (taken_routine env place base space number w gs)
-    ∙ ap (λ (y : terms.Term). term_or (call_with (argument_of env) (operand_of env) env place gs base space number w) y) (wrong_routine env place base space number w gs)
+    ∙ ap (λ (y : terms.Term). term_or (call_with (argument_of env) (operand_of env) (along_value env) env place gs base space number w) y) (wrong_routine env place base space number w gs)
 
 procedure_refused : (env : Env) (t : Tables) (place : Place) (r : Routine) (z : terms.Term) (s : RoutineIs env r z) → NotIndexed r → r.receiver ≡ receiver.Module → (gs : List Given) (rule : ℕ) → refused_rule t (refuser.Procedure r.parameters) gs ≡ Some rule
     → indexed env place (item_of env place z) gs ≡ wrong_arguments env place rule (λ es. es) gs
@@ -294,7 +303,7 @@ procedure_refused env t place r z s none own gs rule h =
     let ps = parameters_in env.scope s.space s.read.1 in
     let b = broken_by (takes (map parameter_view r.parameters.now) gs) rule h in
     let no_takes : takes ps gs ≡ false = ap (λ (l : List project.Parameter). takes l gs) (sym s.parameters_are) ∙ b.0 in
-    let index : bound.Node → Declared → terms.Term = λ (n : bound.Node) (v : Declared). indexed_value (operand_of env) env place n v gs in
+    let index : bound.Node → Declared → terms.Term = λ (n : bound.Node) (v : Declared). indexed_value (operand_of env) (along_value env) env place n v gs in
     let wrong : bound.Node → Declared → terms.Term = λ (n : bound.Node) (v : Declared). wrong_index env place n v gs in
     let taken_as : ℕ × Written → terms.Term = λ (f : ℕ × Written).
     if indexes_value f.1 gs then node_or (call_value env None s.space f.0 f.1 (Some bound.no_args)) index else call_value env None s.space f.0 f.1 (bound_arguments (argument_of env) (parameters_in env.scope s.space f.1) gs) in
@@ -325,7 +334,7 @@ called_refused env t place z base space number w read made u [] rule is reads ge
 called_refused env t place z base space number w read made u (g ∷ gs) rule is reads get none call h =
     let of = declared_view u in
     let b = broken_by (may_index of (g ∷ gs)) rule h in
-    let index : bound.Node → Declared → terms.Term = λ (n : bound.Node) (v : Declared). indexed_value (operand_of env) env place n v (g ∷ gs) in
+    let index : bound.Node → Declared → terms.Term = λ (n : bound.Node) (v : Declared). indexed_value (operand_of env) (along_value env) env place n v (g ∷ gs) in
     let wrong : bound.Node → Declared → terms.Term = λ (n : bound.Node) (v : Declared). wrong_index env place n v (g ∷ gs) in
     let test : ℕ × Written → Bool = λ (f : ℕ × Written). is_get f.1.kind && length f.1.parameters == 0 in
     let call_as : ℕ × Written → terms.Term = λ (f : ℕ × Written). call_value env base space f.0 f.1 (bound_arguments (argument_of env) (parameters_in env.scope space f.1) (g ∷ gs)) in
@@ -338,7 +347,36 @@ called_refused env t place z base space number w read made u (g ∷ gs) rule is 
     routine_indexed env place z base space number w (g ∷ gs) is ∙ ap (λ (o : Option (ℕ × Written)). term_or (if_there (option_map taken_as o)) (if_there (option_map wrong_as o))) reads
     ∙ ap (λ (c : Bool). term_or (if c then node_or value index else call_as read) (if c then node_or value wrong else broken_as read)) one ∙ ap (λ (y : terms.Term). term_or (node_or y index) (node_or y wrong)) value_is
     ∙ ap (λ (y : terms.Term). term_or y (wrong_index env place made of (g ∷ gs))) (not_indexed_value env place made of (g ∷ gs) b.0)
-    ∙ ap (λ (c : Bool). if c then no_term else wrong_arguments env place 25 (also (expression_of made place of)) (g ∷ gs)) b.0 ∙ ap (λ (n : ℕ). wrong_arguments env place n (also (expression_of made place of)) (g ∷ gs)) b.1
+    ∙ wrong_of env place made of (g ∷ gs) b.0 ∙ ap (λ (n : ℕ). wrong_arguments env place n (also (expression_of made place of)) (g ∷ gs)) b.1
+
+-- the same of what is of a class
+called_broken : (env : Env) (all : project.Declarations) (place : Place) (z : terms.Term) (base : Option bound.Expr) (space : Space) (number : ℕ) (w : Written) (read : ℕ × Written) (made : bound.Node) (k : ℕ) (of : Declared) (g : Given) (gs : List Given) (rule : ℕ)
+    → declared_in env.scope ≡ all → z ≡ routine_term base space number w → reader env.scope space number w ≡ Some read → is_get read.1.kind ≡ true → parameters_in env.scope space read.1 ≡ [] → bare_call env base space number w ≡ a_value made of
+    → of ≡ type.class k → class_led all k (g ∷ gs) ≡ breaks rule → indexed env place (item_of env place z) (g ∷ gs) ≡ wrong_arguments env place rule (also (expression_of made place of)) (g ∷ gs)
+called_broken env all place z base space number w read made k of g gs rule alike is reads get none call of_is h =
+    let index : bound.Node → Declared → terms.Term = λ (n : bound.Node) (v : Declared). indexed_value (operand_of env) (along_value env) env place n v (g ∷ gs) in
+    let wrong : bound.Node → Declared → terms.Term = λ (n : bound.Node) (v : Declared). wrong_index env place n v (g ∷ gs) in
+    let test : ℕ × Written → Bool = λ (f : ℕ × Written). is_get f.1.kind && length f.1.parameters == 0 in
+    let call_as : ℕ × Written → terms.Term = λ (f : ℕ × Written). call_value env base space f.0 f.1 (bound_arguments (argument_of env) (parameters_in env.scope space f.1) (g ∷ gs)) in
+    let broken_as : ℕ × Written → terms.Term = λ (f : ℕ × Written). if takes (parameters_in env.scope space f.1) (g ∷ gs) then no_term else wrong_arguments env place 25 (behind_base base) (g ∷ gs) in
+    let taken_as : ℕ × Written → terms.Term = λ (f : ℕ × Written). if test f then node_or (call_value env base space f.0 f.1 (Some bound.no_args)) index else call_as f in
+    let wrong_as : ℕ × Written → terms.Term = λ (f : ℕ × Written). if test f then node_or (call_value env base space f.0 f.1 (Some bound.no_args)) wrong else broken_as f in
+    let value_is : call_value env base space read.0 read.1 (Some bound.no_args) ≡ a_value made of = property_value env base space number w read made of reads none call in
+    let one : test read ≡ true = ap (λ (c : Bool). c && length read.1.parameters == 0) get ∙ none_written (scope_in (home env.scope space) read.1) (takes_value read.1.kind) read.1.parameters none in
+    let value = call_value env base space read.0 read.1 (Some bound.no_args) in
+    routine_indexed env place z base space number w (g ∷ gs) is ∙ ap (λ (o : Option (ℕ × Written)). term_or (if_there (option_map taken_as o)) (if_there (option_map wrong_as o))) reads
+    ∙ ap (λ (c : Bool). term_or (if c then node_or value index else call_as read) (if c then node_or value wrong else broken_as read)) one ∙ ap (λ (y : terms.Term). term_or (node_or y index) (node_or y wrong)) value_is
+    ∙ value_broken_of env all place made k of (g ∷ gs) rule alike of_is h
+
+pub property_broken : (env : Env) (all : project.Declarations) (place : Place) (z : terms.Term) (base : Option bound.Expr) (space : Space) (number : ℕ) (w : Written) (read : ℕ × Written) (made : bound.Node) (k : ℕ) (of : Declared) (count one : ℕ) (gs : List Given) (rule : ℕ)
+    → declared_in env.scope ≡ all → z ≡ routine_term base space number w → reader env.scope space number w ≡ Some read → is_get read.1.kind ≡ true → parameters_in env.scope space read.1 ≡ [] → bare_call env base space number w ≡ a_value made of
+    → of ≡ type.class k → ((hs : List Given) → ArePlain count hs → class_led all k hs ≡ breaks one) → (if are_places gs && (length gs == count) then Some one else None) ≡ Some rule
+    → indexed env place (item_of env place z) gs ≡ wrong_arguments env place rule (also (expression_of made place of)) gs
+property_broken env all place z base space number w read made k of count one [] rule alike is reads get none call of_is breaks_it h = let e : ◌≡◌ {A = Option ℕ} None (Some rule) = h in absurd cc
+property_broken env all place z base space number w read made k of count one (g ∷ gs) rule alike is reads get none call of_is breaks_it h =
+    let b = led_broken (are_places (g ∷ gs) && (length (g ∷ gs) == count)) one rule h in
+    called_broken env all place z base space number w read made k of g gs one alike is reads get none call of_is (breaks_it (g ∷ gs) (places_many count (g ∷ gs) b.0))
+    ∙ ap (λ (n : ℕ). wrong_arguments env place n (also (expression_of made place of)) (g ∷ gs)) b.1
 
 pub property_untaken : (env : Env) (x : Tree) (r : Routine) (v : Ending) (d m e : Drafted) → IndexesValue r → CallsRoutine r d m v → e ≡ record m { pieces = put m.tables (node_of v.kind x.place v.of) m.pieces }
     → OpensTerm env x (term.Routine r) d e (untaken_at x.place (refuser.Called v.of))

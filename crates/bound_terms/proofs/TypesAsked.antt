@@ -1,4 +1,4 @@
-use Rattle.std.proofs.Common.{◌≡◌, List, ◌∷◌, Option, Some, None, refl, sym, ap, ◌∙◌, ℕ}
+use Rattle.std.proofs.Common.{◌≡◌, Bor, List, ◌∷◌, Option, Some, None, refl, sym, ap, ◌∙◌, ℕ}
 use Rattle.vba_lexer.specs.declared.token.Token.{Token}
 use Rattle.vba_words.specs.declared.identifier.Identifier.{Identifier}
 use Rattle.vba_expression.specs.Tree.{type_of, me, new}
@@ -11,13 +11,15 @@ use Rattle.bound_project.specs.declared.declared_type.DeclaredType.{DeclaredType
 use Rattle.bound_project.specs.declared.declared_type.DeclaredType.TheVariants.{Plain}
 use Rattle.bound_project.specs.declared.declared_type.ElementType.TheVariants as element
 use Rattle.bound_project.specs.declared.node.NodeKind.TheVariants as kinds
-use Rattle.bound_project.specs.View.{declared_view}
+use Rattle.bound_project.specs.declared.declarations.Declarations.{Declarations}
+use Rattle.bound_project.specs.View.{declarations_view, declared_view}
 use Rattle.bound_project.specs.Expressions.{is_type, new_object, this}
 use Rattle.bound_project.specs.Expressions as bound
 use Rattle.bound_project.specs.Pieces.{Piece, Tables, expr_of, of_value}
 use Rattle.bound_project.specs.Drafts.{Drafted}
 use Rattle.declared_names.specs.binder.specs.Types.{meant_type, plain_type}
 use Rattle.bound_accesses.specs.bound_names.specs.bound_members.specs.bound_calls.specs.bound_forms.specs.Terms.{Env, a_value}
+use Rattle.bound_accesses.specs.bound_names.specs.bound_members.specs.bound_calls.specs.bound_forms.specs.ClassDefaults.{declared_in}
 use Rattle.bound_accesses.specs.bound_names.specs.bound_members.specs.bound_calls.specs.bound_forms.specs.ExpressionsBound.{given_as, term_of, typed_term, place_told, new_term}
 use Rattle.bound_accesses.specs.bound_names.specs.bound_members.specs.bound_calls.specs.declared.term.Tree.{Tree}
 use Rattle.bound_accesses.specs.bound_names.specs.bound_members.specs.bound_calls.specs.declared.term.Term.{Term}
@@ -45,16 +47,17 @@ typed t found of v u ps below meant h = record {
 }
 
 pub goes_type_of : (env : Env) (x : Tree) (word is_word : Token) (class : Identifier) (of v : DeclaredType) (xs old after : List Item) (d e : Drafted) → old ≡ item.Tree x ∷ xs
-    → after ≡ item.Tree (record { place = word.place; name = None; dotted = None; term = asked of }) ∷ xs → AllNamed d.tables old → declared_view of ≡ meant_type (plain_type env.scope class) → PushesGiven x d e v
+    → after ≡ item.Tree (record { place = word.place; name = None; dotted = None; term = asked of; declared = x.declared }) ∷ xs → AllNamed d.tables old → declared_view of ≡ meant_type (plain_type env.scope class) → PushesGiven x d e v
     → Goes env d old e after (behind_node (node.TypeOf word is_word class))
 goes_type_of env x word is_word class of v xs old after d e o n k meant p =
-    goes_made env x (record { place = word.place; name = None; dotted = None; term = asked of }) xs old after d e (λ tree. type_of word tree is_word (short_type class)) o n p.grown k tt
+    goes_made env x (record { place = word.place; name = None; dotted = None; term = asked of; declared = x.declared }) xs old after d e (λ tree. type_of word tree is_word (short_type class)) o n p.grown k tt
     (λ tree below h. record {
       term_is = typed e.tables (given_as env (term_of env tree) (place_told tree)) of v (meant_type (plain_type env.scope class)) e.pieces below meant (p.stands env tree below h);
       place_is = refl;
       name_is = refl;
       qualifier_is = refl;
       leaf = tt;
+      declared_is = h.declared_is;
     })
     (behind_node (node.TypeOf word is_word class)) (λ tree is. refl)
 
@@ -71,10 +74,10 @@ me_leaf env d of h = record {
   stands = λ ps. record { made = this; is = ap (λ (u : Declared). a_value this u) (sym h); ends = λ n. refl };
 }
 
-pub goes_me : (env : Env) (token : Token) (of : DeclaredType) (xs ys after : List Item) (d e : Drafted) → Goes env d xs e ys (λ is. is) → declared_view of ≡ own_class env.scope
-    → after ≡ item.Tree (record { place = token.place; name = None; dotted = None; term = owned of }) ∷ ys → Goes env d xs e after (behind_node (node.Me token))
-goes_me env token of xs ys after d e g meant k =
-    goes_leaf env xs ys after d e e (record { place = token.place; name = None; dotted = None; term = owned of }) (me token) g (me_leaf env e of meant) refl refl refl k
+pub goes_me : (env : Env) (known : Bor Declarations) → declared_in env.scope ≡ declarations_view known.now → (token : Token) (of : DeclaredType) (xs ys after : List Item) (d e : Drafted) → Goes env d xs e ys (λ is. is) → declared_view of ≡ own_class env.scope
+    → after ≡ item.Tree (record { place = token.place; name = None; dotted = None; term = owned of; declared = known }) ∷ ys → Goes env d xs e after (behind_node (node.Me token))
+goes_me env known told token of xs ys after d e g meant k =
+    goes_leaf env xs ys after d e e (record { place = token.place; name = None; dotted = None; term = owned of; declared = known }) (me token) told g (me_leaf env e of meant) refl refl refl k
 
 abbrev pub newly : ℕ → DeclaredType → Term
 newly number of = term.Value (record { kind = kinds.NewObject number; of = of })
@@ -97,8 +100,8 @@ new_leaf env d number of u h class = record {
   };
 }
 
-pub goes_new : (env : Env) (word : Token) (class : Identifier) (number : ℕ) (of : DeclaredType) (xs ys after : List Item) (d e : Drafted) → Goes env d xs e ys (λ is. is) → declared_view of ≡ meant_type (plain_type env.scope class)
-    → made_in (declared_view of) ≡ Some number → after ≡ item.Tree (record { place = word.place; name = None; dotted = None; term = newly number of }) ∷ ys → Goes env d xs e after (behind_node (node.New word class))
-goes_new env word class number of xs ys after d e g meant known k =
-    goes_leaf env xs ys after d e e (record { place = word.place; name = None; dotted = None; term = newly number of }) (new word (short_type class)) g (new_leaf env e number of (meant_type (plain_type env.scope class)) meant known) refl
+pub goes_new : (env : Env) (known : Bor Declarations) → declared_in env.scope ≡ declarations_view known.now → (word : Token) (class : Identifier) (number : ℕ) (of : DeclaredType) (xs ys after : List Item) (d e : Drafted) → Goes env d xs e ys (λ is. is) → declared_view of ≡ meant_type (plain_type env.scope class)
+    → made_in (declared_view of) ≡ Some number → after ≡ item.Tree (record { place = word.place; name = None; dotted = None; term = newly number of; declared = known }) ∷ ys → Goes env d xs e after (behind_node (node.New word class))
+goes_new env known told word class number of xs ys after d e g meant made k =
+    goes_leaf env xs ys after d e e (record { place = word.place; name = None; dotted = None; term = newly number of; declared = known }) (new word (short_type class)) told g (new_leaf env e number of (meant_type (plain_type env.scope class)) meant made) refl
     refl refl k

@@ -10,7 +10,7 @@ ghost use Rattle.bound_terms.specs.Indexing.{IndexesValue, NotIndexed, OpensItem
 ghost use Rattle.bound_accesses.specs.bound_names.specs.View.{EnvStands, env_view};
 
 use bound_accesses::bound_names::bound_members::bound_calls::bound_declarations::{
-    NotYet, is_property,
+    NotYet, class_in, is_property,
 };
 use bound_accesses::bound_names::bound_members::bound_calls::{
     Ending, HostMember, Indexed, Item, Receiver, Refuser, Routine, Shape, Term, Tree, Untaken,
@@ -19,7 +19,10 @@ use bound_accesses::bound_names::bound_members::bound_calls::{
 use bound_accesses::bound_names::bound_members::open_member;
 use bound_accesses::bound_names::{Env, callee_term};
 use bound_accesses::{item_member, item_term, lacks_item, takes_item};
-use bound_operands::{open_call, open_function, open_place, open_value, push_whole, refused_rule};
+use bound_operands::{
+    count_shapes, open_call, open_function, open_led_place, open_led_value, open_place, open_value,
+    push_led, push_whole, refused_rule,
+};
 use bound_project::{Draft, LateUse};
 use std::alloc::Global;
 use vba_base::{NoMemory, OrMemory};
@@ -86,6 +89,27 @@ fn open_property<'a>(
     push_whole(draft, ending, tree.place, env.has_class)
 }
 
+/// A property that is called without arguments, and whose value is of a class, behind which so many arguments are read from
+/// now on.
+fn open_led_property<'a>(
+    alloc: Global,
+    draft: &mut Draft,
+    env: Env<'a>,
+    tree: Tree<'a>,
+    routine: Routine<'a>,
+    count: u32,
+) -> Result<Item<'a>, OrMemory<NotYet>>
+    requires env { EnvStands env }
+    requires indexes { IndexesValue routine }
+    ensures { IfOk result (λ item. OpensTerm (env_view env.entry) tree.entry (Term.Routine routine.entry) (draft_view draft.old) (draft_view draft.new) item) }
+{
+    let ending = routine_ending(alloc, draft, routine)?;
+    let Some(class) = class_in(ending.of) else {
+        return Err(OrMemory::Fault(NotYet));
+    };
+    push_led(draft, env.declared, ending, class, tree.place, count)
+}
+
 /// A procedure that doesn't take the arguments that are read from now on.
 fn refuse_procedure<'a>(tree: Tree<'a>, routine: Routine<'a>) -> Result<Item<'a>, OrMemory<NotYet>>
     requires { NotIndexed routine }
@@ -135,6 +159,7 @@ fn open_routine<'a>(
     routine: Routine<'a>,
     shapes: &[Shape<'a>],
 ) -> Result<Item<'a>, OrMemory<NotYet>>
+    requires { EnvStands env }
     ensures { IfOk result (λ item. OpensTerm (env_view env.entry) tree.entry (Term.Routine routine.entry) (draft_view draft.old) (draft_view draft.new) item) }
 {
     if !indexes_value(routine) {
@@ -142,6 +167,10 @@ fn open_routine<'a>(
     }
     if shapes.is_empty() {
         return open_received(draft, tree, routine);
+    }
+    if class_in(routine.of).is_some() {
+        let count = count_shapes(shapes)?;
+        return open_led_property(alloc, draft, env, tree, routine, count);
     }
     if is_refused(alloc, draft, Refuser::Called(routine.of), shapes)? {
         return refuse_property(alloc, draft, tree, routine);
@@ -161,9 +190,14 @@ fn open_indexed<'a>(
     makes: bool,
     shapes: &[Shape<'a>],
 ) -> Result<Item<'a>, OrMemory<NotYet>>
-    requires { NodeNamed (draft_view draft.old).tables at.kind }
+    requires env { EnvStands env }
+    requires named { NodeNamed (draft_view draft.old).tables at.kind }
     ensures { IfOk result (λ item. (bounded : Bool) → OpensTerm (env_view env.entry) tree.entry (Term.Place at.kind at.of bounded lends makes) (draft_view draft.old) (draft_view draft.new) item) }
 {
+    if let Some(class) = class_in(at.of) {
+        let count = count_shapes(shapes)?;
+        return open_led_place(draft, env.declared, tree, at, lends, makes, class, count);
+    }
     if is_refused(alloc, draft, Refuser::Value(at.of), shapes)? {
         push_node(draft, at.kind, at.of, tree.place)?;
         push_node(draft, read_kind(makes), at.of, tree.place)?;
@@ -182,9 +216,14 @@ fn open_whole<'a>(
     ending: Ending,
     shapes: &[Shape<'a>],
 ) -> Result<Item<'a>, OrMemory<NotYet>>
-    requires { NodeNamed (draft_view draft.old).tables ending.kind }
+    requires env { EnvStands env }
+    requires named { NodeNamed (draft_view draft.old).tables ending.kind }
     ensures { IfOk result (λ item. OpensTerm (env_view env.entry) tree.entry (Term.Value ending) (draft_view draft.old) (draft_view draft.new) item) }
 {
+    if let Some(class) = class_in(ending.of) {
+        let count = count_shapes(shapes)?;
+        return open_led_value(draft, env.declared, tree, ending, class, count);
+    }
     if is_refused(alloc, draft, Refuser::Value(ending.of), shapes)? {
         push_node(draft, ending.kind, ending.of, tree.place)?;
         return Ok(untaken(tree, Refuser::Value(ending.of)));
@@ -232,7 +271,8 @@ fn open_term<'a>(
     term: Term<'a>,
     shapes: &[Shape<'a>],
 ) -> Result<Item<'a>, OrMemory<NotYet>>
-    requires { TermNamed (draft_view draft.old).tables term }
+    requires env { EnvStands env }
+    requires named { TermNamed (draft_view draft.old).tables term }
     ensures { IfOk result (λ item. OpensTerm (env_view env.entry) tree.entry term.entry (draft_view draft.old) (draft_view draft.new) item) }
 {
     if lacks_item(term) {

@@ -103,7 +103,14 @@ fn step<'a>(
     ensures { OnOk result (Goes (env_view env.entry) (draft_view draft.old) (reverse stack.old.items) (draft_view draft.new) (reverse stack.new.items) (behind_node node.now)) }
 {
     match node {
-        ExpressionNode::Literal(literal) => step_literal(alloc, draft, stack, refers, literal),
+        ExpressionNode::Literal(literal) => step_literal(
+            alloc,
+            draft,
+            env.declared,
+            stack,
+            refers,
+            literal,
+        ),
         ExpressionNode::Name(name) => step_name(alloc, draft, env, stack, refers, name),
         ExpressionNode::WithMember { dot, member } => {
             step_with_member(alloc, draft, env, stack, refers, *dot, member)
@@ -129,7 +136,7 @@ fn step<'a>(
         ExpressionNode::NamedArgument { name, .. } => {
             step_named_argument(alloc, draft, stack, name)
         }
-        ExpressionNode::Index { .. } => step_index(alloc, draft, stack),
+        ExpressionNode::Index { .. } => step_index(alloc, draft, env.declared, stack),
         ExpressionNode::Me(token) => step_me(alloc, draft, env, stack, refers, *token),
         ExpressionNode::New { new_word, class } => {
             step_new(alloc, draft, env, stack, refers, *new_word, class)

@@ -48,6 +48,7 @@ pub fn step_type_of<'a>(
                 kind: NodeKind::IsType(meant_type(meant)),
                 of: DeclaredType::Plain(ElementType::Boolean),
             }),
+            declared: tree.declared,
         }),
     )?;
     Ok(())
@@ -62,7 +63,8 @@ pub fn step_me<'a>(
     is_reference: bool,
     token: Token,
 ) -> Result<(), OrMemory<NotYet>>
-    requires { AllNamed (draft_view draft.old).tables (reverse stack.old.items) }
+    requires env { EnvStands env }
+    requires named { AllNamed (draft_view draft.old).tables (reverse stack.old.items) }
     ensures { OnOk result (Goes (env_view env.entry) (draft_view draft.old) (reverse stack.old.items) (draft_view draft.new) (reverse stack.new.items) (behind_node (node.Me token))) }
 {
     settle(alloc, draft, stack, is_reference)?;
@@ -77,6 +79,7 @@ pub fn step_me<'a>(
                 kind: NodeKind::This,
                 of,
             }),
+            declared: env.declared,
         }),
     )?;
     Ok(())
@@ -92,7 +95,8 @@ pub fn step_new<'a>(
     new_word: Token,
     class: &Identifier,
 ) -> Result<(), OrMemory<NotYet>>
-    requires { AllNamed (draft_view draft.old).tables (reverse stack.old.items) }
+    requires env { EnvStands env }
+    requires named { AllNamed (draft_view draft.old).tables (reverse stack.old.items) }
     ensures { OnOk result (Goes (env_view env.entry) (draft_view draft.old) (reverse stack.old.items) (draft_view draft.new) (reverse stack.new.items) (behind_node (node.New new_word class.now))) }
 {
     settle(alloc, draft, stack, is_reference)?;
@@ -111,6 +115,7 @@ pub fn step_new<'a>(
                 kind: NodeKind::NewObject { class: number },
                 of,
             }),
+            declared: env.declared,
         }),
     )?;
     Ok(())
@@ -139,6 +144,7 @@ pub fn step_name<'a>(
             name: Some(name),
             dotted: None,
             term,
+            declared: env.declared,
         }),
     )?;
     Ok(())

@@ -22,7 +22,8 @@ use Rattle.bound_members.specs.bound_calls.specs.bound_declarations.specs.consta
 use Rattle.bound_members.specs.bound_calls.specs.bound_declarations.specs.constant_values.specs.declared_names.specs.binder.specs.Storage.{declared_variable, has_bounds, module_storage, own_declaration, own_storage, procedure_number}
 use Rattle.bound_members.specs.bound_calls.specs.bound_declarations.specs.constant_values.specs.declared_names.specs.binder.specs.Types.{class_number, is_object, meant_type, type_meant}
 use Rattle.bound_members.specs.bound_calls.specs.bound_forms.specs.Terms.{Env, Given, HostMember, Term, Within, a_function, a_host_member, a_method, a_place, a_routine, a_value, bound_arguments, broken_value, err_clear, err_object, err_raise, error_word, expression_of, member_read, no_term, read_of, takes}
-use Rattle.bound_members.specs.bound_calls.specs.bound_forms.specs.ExpressionsBound.{HostKind, along_of, argument_of, array_base, arguments_rule, bare_call, behind_base, behind_term, call_node, call_value, call_with, callee, class_member, constant_term, declared_place, element_place, entry_term, err_member, field_named, field_of_place, field_of_value, found_member, from_zero, function_takes, function_value, function_values, given_as, givens, has_item_member, host_behind, host_kind, host_term, if_there, indexed, indexed_type, indexed_value, indexes_value, is_found_late, item_of, kept_member, library_term, made_place, may_index, meant_term, member_called, member_in, member_of, member_of_kind, member_of_other, member_takes, new_term, node_or, numbers_of, object_behind, object_member, object_term, operand_of, own_object, own_term, place_told, reference_of, result_of, sheet_term, sheets_value, taken_by_term, takes_arguments, term_of, term_or, unknown_member, value_term, variable_term, variant_arguments, workbook, wrong_arguments, wrong_call, wrong_index, wrong_some, wrong_term}
+use Rattle.bound_members.specs.bound_calls.specs.bound_forms.specs.ExpressionsBound.{HostKind, along_of, along_type, along_value, argument_of, array_base, arguments_rule, bare_call, behind_base, behind_term, call_node, call_value, call_with, callee, class_member, constant_term, declared_place, element_place, entry_term, err_member, field_named, field_of_place, field_of_value, found_member, from_zero, function_takes, function_value, function_values, given_as, givens, has_item_member, host_behind, host_kind, is_found_late, host_term, if_there, indexed, indexed_place, indexed_type, indexed_value, indexes_value, item_of, kept_member, library_term, made_place, may_index, meant_term, member_called, member_in, member_of, member_of_kind, member_of_other, member_takes, new_term, node_or, numbers_of, object_behind, object_member, object_term, operand_of, own_object, own_term, place_told, reference_of, result_of, sheet_term, sheets_value, taken_by_term, takes_arguments, term_of, term_or, unknown_member, value_term, variable_term, variant_arguments, workbook, wrong_arguments, wrong_call, wrong_index, wrong_led, wrong_some, wrong_term}
+use Rattle.bound_members.specs.bound_calls.specs.bound_forms.specs.ClassDefaults.{Known, breaks, class_led, declared_in}
 use Rattle.bound_members.specs.bound_calls.specs.bound_forms.specs.StatementsBound.{is_of_object}
 
 -- what is no place of another object, but for one that isn't lent in a project with a class
@@ -222,24 +223,24 @@ element_of : (x : Lvalue) (es : Exprs) → is_of_object (element_place x es) ≡
 element_of (variable v) es = refl
 element_of x es = refl
 
-free_indexed_value : (has : Bool) (env : Env) (place : Place) (node : bound.Node) (of : Declared) (gs : List Given) → is_free has (indexed_value (operand_of env) env place node of gs) ≡ true
-free_indexed_value has env place node of gs =
-    let e = expression_of node place of in
-    let along : Exprs → Term = λ (es : Exprs). a_value (late_item e es) type.variant in
-    let element : Declared → Exprs → Term = λ (u : Declared) (xs : Exprs). a_value (element_value e xs) u in
-    free_if has (is_found_late env e) (if_there (option_map along (along_of (operand_of env) gs))) (if_there (from_two element (indexed_type env e) (numbers_of (operand_of env) gs)))
-    (free_option has along (along_of (operand_of env) gs) (λ es. refl)) (free_two has element (indexed_type env e) (numbers_of (operand_of env) gs) (λ u xs. refl))
+free_indexed_value : (has : Bool) (env : Env) (place : Place) (node : bound.Node) (of : Declared) (gs : List Given) → is_free has (indexed_value (operand_of env) (along_value env) env place node of gs) ≡ true
+free_indexed_value has env place node of gs = by (along_type env (expression_of node place of) gs) refl
+  where
+    by : (o : Option Declared) → along_type env (expression_of node place of) gs ≡ o → is_free has (indexed_value (operand_of env) (along_value env) env place node of gs) ≡ true
+    by None is =
+        rw is (free_two has (λ (u : Declared) (xs : Exprs). a_value (element_value (expression_of node place of) xs) u) (indexed_type env (expression_of node place of)) (numbers_of (operand_of env) gs) (λ u xs. refl))
+    by (Some u) is = rw is (free_option has (λ (es : Exprs). a_value (late_item (expression_of node place of) es) u) (along_of (along_value env) gs) (λ es. refl))
 
 free_call_value : (has : Bool) (env : Env) (base : Option bound.Expr) (space : Space) (number : ℕ) (p : Written) (args : Option bound.Args) → is_free has (call_value env base space number p args) ≡ true
 free_call_value has env base space number p args =
     free_option has (λ xs. a_value (call_node base (procedure_number env.scope space number) xs) (call_type env.scope space p)) args (λ xs. refl)
 
 free_call : (has : Bool) (env : Env) (place : Place) (gs : List Given) (base : Option bound.Expr) (space : Space) (number : ℕ) (p : Written)
-    → is_free has (call_with (argument_of env) (operand_of env) env place gs base space number p) ≡ true
+    → is_free has (call_with (argument_of env) (operand_of env) (along_value env) env place gs base space number p) ≡ true
 free_call has env place gs base space number p =
     let bare : ℕ × Written → Term = λ (f : ℕ × Written). call_value env base space f.0 f.1 (Some bound.no_args) in
     let whole : ℕ × Written → Term = λ (f : ℕ × Written). call_value env base space f.0 f.1 (bound_arguments (argument_of env) (parameters_in env.scope space f.1) gs) in
-    let at : bound.Node → Declared → Term = λ node of. indexed_value (operand_of env) env place node of gs in
+    let at : bound.Node → Declared → Term = λ node of. indexed_value (operand_of env) (along_value env) env place node of gs in
     free_option has (λ (f : ℕ × Written). if indexes_value f.1 gs then node_or (bare f) at else whole f) (reader env.scope space number p)
     (λ f.
     free_if has (indexes_value f.1 gs) (node_or (bare f) at) (whole f) (free_node has (bare f) at (λ node of. free_indexed_value has env place node of gs))
@@ -249,14 +250,17 @@ free_function : (has : Bool) (env : Env) (place : Place) (f : LibraryFunction) (
 free_function has env place f text_form base true es = refl
 free_function has env place f text_form base false es = refl
 
+free_indexed_place : (has : Bool) (env : Env) (e : bound.Expr) (x : Lvalue) (lends : Bool) (gs : List Given) → ((has && not lends) || not (is_of_object x)) ≡ true → is_free has (indexed_place env e x lends gs) ≡ true
+free_indexed_place has env e x lends gs h = by (along_type env e gs) refl
+  where
+    by : (o : Option Declared) → along_type env e gs ≡ o → is_free has (indexed_place env e x lends gs) ≡ true
+    by None is =
+        rw is (free_two has (λ (u : Declared) (es : Exprs). a_place (element_place x es) u false lends false) (indexed_type env e) (numbers_of (operand_of env) gs)
+        (λ u es. ap (λ (b : Bool). (has && not lends) || not b) (element_of x es) ∙ h))
+    by (Some u) is = rw is (free_option has (λ (es : Exprs). a_place (element_along x es) u false lends false) (along_of (along_value env) gs) (λ es. h))
+
 free_taken : (has : Bool) (env : Env) (place : Place) (t : Term) (gs : List Given) → is_free has t ≡ true → is_free has (taken_by_term env place t gs) ≡ true
-free_taken has env place (a_place x of bounded lends makes) gs h =
-    let e = expression_of (read_of makes x) place of in
-    let along : Exprs → Term = λ (es : Exprs). a_place (element_along x es) type.variant false lends false in
-    let element : Declared → Exprs → Term = λ (u : Declared) (es : Exprs). a_place (element_place x es) u false lends false in
-    free_if has (is_found_late env e) (if_there (option_map along (along_of (operand_of env) gs))) (if_there (from_two element (indexed_type env e) (numbers_of (operand_of env) gs)))
-    (free_option has along (along_of (operand_of env) gs) (λ es. h))
-    (free_two has element (indexed_type env e) (numbers_of (operand_of env) gs) (λ u es. ap (λ (b : Bool). (has && not lends) || not b) (element_of x es) ∙ h))
+free_taken has env place (a_place x of bounded lends makes) gs h = free_indexed_place has env (expression_of (read_of makes x) place of) x lends gs h
 free_taken has env place (a_value node of) gs h = free_indexed_value has env place node of gs
 free_taken has env place (a_routine space number p) gs h = free_call has env place gs None space number p
 free_taken has env place (a_method base space number p) gs h = free_call has env place gs (Some base) space number p
@@ -271,7 +275,12 @@ free_taken has env place t gs h = refl
 free_wrong : (has : Bool) (env : Env) (place : Place) (rule : ℕ) (before : Exprs → Exprs) (gs : List Given) → is_free has (wrong_arguments env place rule before gs) ≡ true
 free_wrong has env place rule before gs = free_option has (λ es. broken_value rule place (before es)) (variant_arguments env gs) (λ es. refl)
 
+free_wrong_led : (has : Bool) (env : Env) (place : Place) (e : bound.Expr) (found : Known) (gs : List Given) → is_free has (wrong_led env place e found gs) ≡ true
+free_wrong_led has env place e (breaks rule) gs = free_wrong has env place rule (also e) gs
+free_wrong_led has env place e found gs = refl
+
 free_wrong_index : (has : Bool) (env : Env) (place : Place) (node : bound.Node) (of : Declared) (gs : List Given) → is_free has (wrong_index env place node of gs) ≡ true
+free_wrong_index has env place node (type.class number) gs = free_wrong_led has env place (expression_of node place (type.class number)) (class_led (declared_in env.scope) number gs) gs
 free_wrong_index has env place node of gs =
     let e = expression_of node place of in free_if has (may_index of gs) no_term (wrong_arguments env place 25 (also e) gs) refl (free_wrong has env place 25 (also e) gs)
 

@@ -26,8 +26,8 @@ use Rattle.bound_members.specs.bound_calls.specs.bound_declarations.specs.consta
 use Rattle.bound_members.specs.bound_calls.specs.bound_declarations.specs.constant_values.specs.declared_names.specs.binder.specs.Scopes.{Space}
 use Rattle.bound_members.specs.bound_calls.specs.bound_forms.specs.Terms.{Env, Given, routine_term}
 use Rattle.bound_members.specs.bound_calls.specs.bound_forms.specs.Terms as plain
-use Rattle.bound_members.specs.bound_calls.specs.bound_forms.specs.ExpressionsBound.{argument_of, item_of, givens, indexed, term_of, place_told, behind_base}
-use Rattle.bound_members.specs.bound_calls.specs.bound_forms.specs.StatementsBound.{assigned, assigned_to, broken_target, is_given_with, is_indexed_late, is_no_target, takes_value, target_before, untaken, value_given, written_to, property_given}
+use Rattle.bound_members.specs.bound_calls.specs.bound_forms.specs.ExpressionsBound.{argument_of, item_of, givens, term_of, place_told, behind_base}
+use Rattle.bound_members.specs.bound_calls.specs.bound_forms.specs.StatementsBound.{assigned, assigned_to, broken_target, index_assigned, is_given_with, is_indexed_late, is_no_target, takes_value, target_before, untaken, value_given, written_to, property_given}
 use Rattle.bound_members.specs.bound_calls.specs.bound_declarations.specs.constant_values.specs.declared_names.specs.View.{space_view}
 use Rattle.statement_terms.specs.declared.trees.Split.{Split}
 use Rattle.bound_members.specs.bound_calls.specs.declared.term.Routine.{Routine}
@@ -168,7 +168,7 @@ pub split_assigned : (env : Env) (base : Expr) (left right : Token) (args : Args
 split_assigned env base left right args value target h =
     let t = target_before env base in
     a_target env (index base left args right) value target
-    ∙ ap (λ (b : Bool). if b then assigned env (place_told base) value (givens env args) t else assigned env (place_told base) value [] (indexed env (place_told base) t (givens env args))) h
+    ∙ ap (λ (b : Bool). if b then assigned env (place_told base) value (givens env args) t else index_assigned env (place_told base) t (givens env args) value) h
 
 -- to a member with arguments
 pub all_is : (split : Split) (all : List ExpressionNode) (s : SplitAt split all) → behind_nodes [] split.target.now ≡ nodes.tree (tree_in split.target.now) ∷ []

@@ -9,13 +9,16 @@ use Rattle.bound_project.specs.declared.declared_type.DeclaredType.{DeclaredType
 use Rattle.bound_project.specs.Expressions as bound
 use Rattle.bound_project.specs.Drafts.{Drafted}
 use Rattle.bound_project.specs.Pieces.{Piece, Tables, put}
+use Rattle.bound_project.specs.Project.{Declarations}
 use Rattle.bound_project.specs.View.{declared_view}
 use Rattle.bound_members.specs.bound_calls.specs.bound_declarations.specs.constant_values.specs.declared_names.specs.binder.specs.Options.{or_else}
 use Rattle.bound_members.specs.bound_calls.specs.bound_declarations.specs.constant_values.specs.declared_names.specs.binder.specs.Types.{is_object}
 use Rattle.bound_members.specs.bound_calls.specs.bound_declarations.specs.constant_values.specs.declared_names.specs.binder.specs.Constants.{is_variant}
 use Rattle.bound_members.specs.bound_calls.specs.bound_forms.specs.Terms.{Env, a_place, a_value, a_routine, a_function, a_host_member, err_object, err_raise, err_clear, error_word, no_term, expression_of, given_rule, given_to, member_read, typed_value, unless_broken, a_method, read_of, value_in, broken_rule, takes}
 use Rattle.bound_members.specs.bound_calls.specs.bound_forms.specs.Terms as plain
-use Rattle.bound_members.specs.bound_calls.specs.bound_forms.specs.ExpressionsBound.{bound_as_given, bound_operand, default_value, given_as, may_be_object as may_be_object_at, operand_of, plain_operand, reference_of, term_of, value_of, place_told, bare_call, has_default, has_object, is_instance_type, is_of_host, may_be_instance, given_way, default_rule, host_kind, lacking_call, behind_base}
+use Rattle.bound_members.specs.bound_calls.specs.bound_forms.specs.ClassDefaults.{declared_in, default_read}
+use Rattle.bound_members.specs.bound_calls.specs.bound_forms.specs.ClassDefaults as defaults
+use Rattle.bound_members.specs.bound_calls.specs.bound_forms.specs.ExpressionsBound.{bound_as_given, bound_operand, default_value, given_as, may_be_object as may_be_object_at, operand_of, plain_operand, reference_of, term_of, value_of, place_told, bare_call, class_given_way, has_object, is_instance_type, is_of_host, may_be_instance, given_way, default_rule, host_kind, lacking_call, behind_base}
 use Rattle.bound_members.specs.bound_calls.specs.bound_forms.specs.StatementsBound.{given_to_term, is_given_with, target_term, value_for, value_given}
 use Rattle.bound_members.specs.bound_calls.specs.declared.term.Term.{Term}
 use Rattle.bound_members.specs.bound_calls.specs.declared.term.Term.TheVariants as term
@@ -24,7 +27,7 @@ use Rattle.bound_members.specs.bound_calls.specs.Standing.{TermStands, ValueEnds
 use Rattle.bound_members.specs.bound_calls.specs.Steps.{Leaves, PushesOperand, PushesValue}
 use Rattle.bound_members.specs.bound_calls.proofs.Growing.{grown_twice, grown_pieces}
 use Rattle.statement_terms.specs.Terms.{may_be_object}
-use Rattle.statement_terms.specs.Assigning.{ExprPushed, PushesFor, ValueBound, ValueFor, is_plain, marked_may, taken_for}
+use Rattle.statement_terms.specs.Assigning.{ExprPushed, PushesFor, ValueBound, ValueFor, is_plain, marked_may, operand_may, taken_for}
 use Rattle.statement_terms.specs.Called.{MayBe}
 use Rattle.statement_terms.specs.declared.takers.Taker.{Taker}
 use Rattle.statement_terms.specs.Takers.{MarksTaken, TakenBy, given_by, may_break}
@@ -40,9 +43,9 @@ value_as_given : (env : Env) (t : plain.Term) (place : Place) (made : bound.Expr
 value_as_given env t place made h = ap (λ (o : Option bound.Expr). or_else o (reference_of env t place)) h
 
 valued : (env : Env) (t : plain.Term) (place : Place) (made : bound.Expr) → value_of env t place ≡ Some made → plain_operand made ≡ made
-    → or_else (option_map plain_operand (value_of env t place)) (option_and_then (default_value place) (reference_of env t place)) ≡ Some made
+    → or_else (option_map plain_operand (value_of env t place)) (option_and_then (default_value (declared_in env.scope) place) (reference_of env t place)) ≡ Some made
 valued env t place made h p =
-    let other = option_and_then (default_value place) (reference_of env t place) in
+    let other = option_and_then (default_value (declared_in env.scope) place) (reference_of env t place) in
     ap (λ (o : Option bound.Expr). or_else (option_map plain_operand o) other) h ∙ ap (λ (e : bound.Expr). Some e) p
 
 value_operand : (env : Env) (t : plain.Term) (place : Place) (made : bound.Expr) → value_of env t place ≡ Some made → plain_operand made ≡ made → operand_of env t place ≡ Some made
@@ -200,45 +203,60 @@ host_free false b = refl
 marked_free : (env : Env) (rule : ℕ) (place : Place) (es : bound.Exprs) → may_be_instance env (broken_rule rule place es) ≡ false
 marked_free env rule place es = host_free (has_class env.scope.spaces) (is_instance_type (bound.marked (record { rule = rule; place = place }) es) type.variant)
 
-default_free : (env : Env) (place : Place) (found : Option bound.Expr) (e : bound.Expr) → option_and_then (default_value place) found ≡ Some e → may_be_instance env e ≡ false
-default_free env place None e h = let none : None ≡ Some e = h in absurd cc
-default_free env place (Some (bound.expr node at of operand)) e h = by (has_default of) h
+class_free : (env : Env) (found : defaults.Known) (place : Place) (x e : bound.Expr) → class_given_way found place x ≡ Some e → is_object (bound.operand_type e) ≡ false → may_be_instance env e ≡ false
+class_free env (defaults.known of) place x e h p =
+    let made = expression_of (bound.default_of x) place of in
+    let same : made ≡ e = (let j : Some made ≡ Some e = h in cc) in
+    let plainly : is_object of ≡ false = ap (λ (y : bound.Expr). is_object (bound.operand_type y)) same ∙ p in
+    let A : bound.Expr → Type 0 = λ (y : bound.Expr). may_be_instance env y ≡ false in
+    subst A same (free_of env (bound.default_of x) place of of (not_instance (bound.default_of x) of plainly (no_right_and (is_variant of))))
+class_free env (defaults.breaks rule) place x e h p =
+    let made = broken_rule rule place (bound.also x bound.no_exprs) in
+    let same : made ≡ e = (let j : Some made ≡ Some e = h in cc) in
+    let A : bound.Expr → Type 0 = λ (y : bound.Expr). may_be_instance env y ≡ false in
+    subst A same (marked_free env rule place (bound.also x bound.no_exprs))
+class_free env defaults.not_said place x e h p = let none : None ≡ Some e = h in absurd cc
+
+other_free : (env : Env) (rule : Option ℕ) (place : Place) (x e : bound.Expr) → Some (given_way rule place x) ≡ Some e → may_be_instance env e ≡ false
+other_free env None place x e h =
+    let made = expression_of (bound.default_of x) place type.variant in
+    let same : made ≡ e = (let j : Some made ≡ Some e = h in cc) in
+    let A : bound.Expr → Type 0 = λ (y : bound.Expr). may_be_instance env y ≡ false in
+    subst A same (free_of env (bound.default_of x) place type.variant type.variant refl)
+other_free env (Some rule) place x e h =
+    let made = broken_rule rule place (bound.also x bound.no_exprs) in
+    let same : made ≡ e = (let j : Some made ≡ Some e = h in cc) in
+    let A : bound.Expr → Type 0 = λ (y : bound.Expr). may_be_instance env y ≡ false in
+    subst A same (marked_free env rule place (bound.also x bound.no_exprs))
+
+default_free : (env : Env) (d : Declarations) (place : Place) (found : Option bound.Expr) (e : bound.Expr) → option_and_then (default_value d place) found ≡ Some e → is_object (bound.operand_type e) ≡ false → may_be_instance env e ≡ false
+default_free env d place None e h p = let none : None ≡ Some e = h in absurd cc
+default_free env d place (Some (bound.expr node at (type.class number) operand)) e h p = class_free env (default_read d number) place (bound.expr node at (type.class number) operand) e h p
+default_free env d place (Some (bound.expr node at of operand)) e h p = other_free env (default_rule (host_kind node of)) place (bound.expr node at of operand) e h
+
+either_free : (env : Env) (t : plain.Term) (place : Place) (e : bound.Expr) → or_else (option_map plain_operand (value_of env t place)) (option_and_then (default_value (declared_in env.scope) place) (reference_of env t place)) ≡ Some e
+    → is_object (bound.operand_type e) ≡ false → may_be_instance env e ≡ false
+either_free env t place e h p = by (value_of env t place) refl h
   where
-    object : bound.Expr
-    object = bound.expr node at of operand
-
-    made : bound.Expr
-    made = given_way (default_rule (host_kind node of)) place object
-
-    way : (o : Option ℕ) → may_be_instance env (given_way o place object) ≡ false
-    way None = free_of env (bound.default_of object) place type.variant type.variant refl
-    way (Some rule) = marked_free env rule place (bound.also object bound.no_exprs)
-
-    by : (b : Bool) → (if b then Some made else None) ≡ Some e → may_be_instance env e ≡ false
-    by true k =
-        let same : made ≡ e = (let j : Some made ≡ Some e = k in cc) in
-        let A : bound.Expr → Type 0 = λ (y : bound.Expr). may_be_instance env y ≡ false in
-        subst A same (way (default_rule (host_kind node of)))
-    by false k = let none : None ≡ Some e = k in absurd cc
-
-either_free : (env : Env) (t : plain.Term) (place : Place) (e : bound.Expr) → or_else (option_map plain_operand (value_of env t place)) (option_and_then (default_value place) (reference_of env t place)) ≡ Some e → may_be_instance env e ≡ false
-either_free env t place e h = by (value_of env t place) refl h
-  where
-    by : (o : Option bound.Expr) → value_of env t place ≡ o → or_else (option_map plain_operand o) (option_and_then (default_value place) (reference_of env t place)) ≡ Some e → may_be_instance env e ≡ false
-    by None k q = default_free env place (reference_of env t place) e q
+    by : (o : Option bound.Expr) → value_of env t place ≡ o → or_else (option_map plain_operand o) (option_and_then (default_value (declared_in env.scope) place) (reference_of env t place)) ≡ Some e → may_be_instance env e ≡ false
+    by None k q = default_free env (declared_in env.scope) place (reference_of env t place) e q p
     by (Some x) k q =
         let same : plain_operand x ≡ e = (let j : Some (plain_operand x) ≡ Some e = q in cc) in
         let A : bound.Expr → Type 0 = λ (y : bound.Expr). may_be_instance env y ≡ false in
         subst A same (plain_free env x (value_typed env t place x k))
 
--- an operand is no object of a class
-operand_free : (env : Env) (t : plain.Term) (place : Place) (e : bound.Expr) → operand_of env t place ≡ Some e → may_be_instance env e ≡ false
-operand_free env err_object place e h =
+-- an operand is no object of a class, unless its type says that a default member gives an object
+operand_free : (env : Env) (t : plain.Term) (place : Place) (e : bound.Expr) → operand_of env t place ≡ Some e → is_object (bound.operand_type e) ≡ false → may_be_instance env e ≡ false
+operand_free env err_object place e h p =
     let made = expression_of (bound.err_value bound.err_number) place type.long in
     let same : made ≡ e = (let j : Some made ≡ Some e = h in cc) in
     let A : bound.Expr → Type 0 = λ (y : bound.Expr). may_be_instance env y ≡ false in
     subst A same (free_of env (bound.err_value bound.err_number) place type.long type.long refl)
-operand_free env t place e h = either_free env t place e h
+operand_free env t place e h p = either_free env t place e h p
+
+may_known : (b : Bool) (env : Env) (e : bound.Expr) → (b ≡ false → may_be_instance env e ≡ false) → MayBe env (if b then None else Some false) e
+may_known true env e free = tt
+may_known false env e free = free refl
 
 pub plain_pushed : (has given : Bool) (x : Tree) (of : DeclaredType) (d e : Drafted) → is_plain x.term ≡ true → PushesValue x d e (Some of) → PushesFor has (Some false) given x d e of
 plain_pushed has given x of d e plain p = record {
@@ -250,7 +268,7 @@ plain_pushed has given x of d e plain p = record {
       let itself = plain_itself env d.tables x.term t d.pieces below at m.made plain k.term_is m.is in
       record {
         pushed = record { made = m.made; is = value_taken given env t at m.made m.is itself; operand = m.operand; on_top = m.on_top };
-        known = operand_free env t at m.made (value_operand env t at m.made m.is itself);
+        known = (let A : bound.Expr → Type 0 = λ (y : bound.Expr). may_be_instance env y ≡ false in subst A itself (plain_free env m.made (value_typed env t at m.made m.is)));
       };
 }
 
@@ -277,13 +295,15 @@ given_pushed has may x d m e v t eq same =
           };
     })
 
-pub operand_pushed : (has given : Bool) (x : Tree) (of : DeclaredType) (d e : Drafted) → given ≡ false → PushesOperand x d e (Some of) → PushesFor has (Some false) given x d e of
+pub operand_pushed : (has given : Bool) (x : Tree) (of : DeclaredType) (d e : Drafted) → given ≡ false → PushesOperand x d e (Some of) → PushesFor has (operand_may of) given x d e of
 operand_pushed has given x of d e b p =
-    let P : Bool → Type 0 = λ (c : Bool). PushesFor has (Some false) c x d e of in
+    let P : Bool → Type 0 = λ (c : Bool). PushesFor has (operand_may of) c x d e of in
     subst P (sym b) (record {
       grown = p.grown;
       stands = λ env known tree below k.
-          let m = p.stands env tree below k in record { pushed = m; known = operand_free env (term_of env tree) (place_told tree) m.made m.is };
+          let m = p.stands env tree below k in
+          let free = λ (n : is_object (declared_view of) ≡ false). operand_free env (term_of env tree) (place_told tree) m.made m.is (ap is_object m.operand ∙ n) in
+          record { pushed = m; known = may_known (is_object (declared_view of)) env m.made free };
     })
 
 -- ---- of an assignment to an expression

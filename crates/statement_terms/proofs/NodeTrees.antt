@@ -112,6 +112,9 @@ bare_name ns x = let A : List nodes.Item → Type 0 = λ is. IsBare (last_tree i
 pub bare_with : (ns : List ExpressionNode) (dot : Token) (x : Identifier) → IsBare (tree_in (ns ++ node.WithMember dot x ∷ []))
 bare_with ns dot x = let A : List nodes.Item → Type 0 = λ is. IsBare (last_tree is) in subst A (sym (behind_push [] ns (node.WithMember dot x))) tt
 
+pub bare_me : (ns : List ExpressionNode) (token : Token) → IsBare (tree_in (ns ++ node.Me token ∷ []))
+bare_me ns token = let A : List nodes.Item → Type 0 = λ is. IsBare (last_tree is) in subst A (sym (behind_push [] ns (node.Me token))) tt
+
 pub bare_member : (ns : List ExpressionNode) (dot : Token) (x : Identifier) → IsBare (tree_in (ns ++ node.Member dot x ∷ []))
 bare_member ns dot x =
     let A : List nodes.Item → Type 0 = λ is. IsBare (last_tree is) in

@@ -28,7 +28,8 @@ use Rattle.bound_members.specs.bound_calls.specs.bound_declarations.specs.consta
 use Rattle.bound_members.specs.bound_calls.specs.bound_forms.specs.Terms.{Env, Given, a_host_member, a_method, a_place, a_routine, a_value, expression_of, no_term}
 use Rattle.bound_members.specs.bound_calls.specs.bound_forms.specs.Terms as plain
 use Rattle.bound_members.specs.bound_calls.specs.bound_forms.specs.ExpressionsBound.{bound_as_given, givens, indexed, term_of, place_told}
-use Rattle.bound_members.specs.bound_calls.specs.bound_forms.specs.StatementsBound.{broken_target, is_sub, is_unassignable, may_refer, no_reference, not_assignable, object_set, place_set, set_by, set_given, set_target, set_to, set_value, target_before, target_of_call}
+use Rattle.bound_members.specs.bound_calls.specs.bound_forms.specs.ClassDefaults.{class_set, declared_in}
+use Rattle.bound_members.specs.bound_calls.specs.bound_forms.specs.StatementsBound.{broken_target, class_of_term, is_sub, is_unassignable, led_set, may_refer, no_reference, not_assignable, object_set, place_set, set_by, set_given, set_target, set_to, set_value, target_before, target_of_call}
 use Rattle.bound_members.specs.bound_calls.specs.declared.term.Ending.{Ending}
 use Rattle.bound_members.specs.bound_calls.specs.declared.term.HostMember.{HostMember}
 use Rattle.bound_members.specs.bound_calls.specs.declared.term.Term.TheVariants as term
@@ -305,15 +306,25 @@ sets_bare word env place x d f e kind bare no_sub itself unset l s = record {
       };
 }
 
+-- with one that ends with arguments, behind what is no object of a class, and behind one
+pub split_set : (word : Place) (env : Env) (base : Expr) (left right : Token) (args : Args) (value : bound.Expr) → class_of_term (target_before env base) ≡ None
+    → object_set env word (index base left args right) value
+    ≡ or_else (set_by env (place_told base) (givens env args) (target_before env base) value) (set_to word (place_told base) (set_with env (place_told base) (givens env args) (target_before env base)) value)
+split_set word env base left right args value h = rw h refl
+
+pub split_led : (word : Place) (env : Env) (base : Expr) (left right : Token) (args : Args) (value : bound.Expr) (number : ℕ) → class_of_term (target_before env base) ≡ Some number
+    → object_set env word (index base left args right) value ≡ led_set env (class_set (declared_in env.scope) number (givens env args)) (place_told base) (target_before env base) (givens env args) value
+split_led word env base left right args value number h = rw h refl
+
 -- with one that ends with arguments, of what has no Set
 pub split_other : (word : Place) (env : Env) (base : Expr) (left right : Token) (args : Args) (value : bound.Expr) → is_sub (target_of_call env (index base left args right)) ≡ false
-    → set_by env (place_told base) (givens env args) (target_before env base) value ≡ None
+    → class_of_term (target_before env base) ≡ None → set_by env (place_told base) (givens env args) (target_before env base) value ≡ None
     → set_there env word (index base left args right) value ≡ set_to word (place_told base) (set_with env (place_told base) (givens env args) (target_before env base)) value
-split_other word env base left right args value none unset =
+split_other word env base left right args value none class unset =
     let p = place_told base in
     let t = target_before env base in
     let gs = givens env args in
-    set_there_is word env (index base left args right) value none ∙ ap (λ (o : Option Action). or_else o (set_to word p (set_with env p gs t) value)) unset
+    set_there_is word env (index base left args right) value none ∙ split_set word env base left right args value class ∙ ap (λ (o : Option Action). or_else o (set_to word p (set_with env p gs t) value)) unset
 
 -- ---- the statement
 

@@ -26,13 +26,13 @@ use Rattle.bound_project.proofs.Lists.{exprs_are, is_itself, late_action}
 use Rattle.bound_project.specs.Pieces.{Piece, Sought, Tables, a_late, a_member, an_expr, by_name_in, expr_of, exprs_off, name_in, of_found, of_value, put, sought_in}
 use Rattle.bound_project.specs.Drafts.{Drafted}
 use Rattle.bound_project.specs.Statements.{Action, assign_default, assign_late, assign_member, set_late}
-use Rattle.bound_project.specs.View.{declared_view}
+use Rattle.bound_project.specs.View.{declarations_view, declared_view}
 use Rattle.bound_members.specs.bound_calls.specs.bound_declarations.specs.constant_values.specs.declared_names.specs.binder.specs.Options.{from_two, or_else}
 use Rattle.bound_members.specs.bound_calls.specs.bound_declarations.specs.constant_values.specs.declared_names.specs.binder.specs.Types.{is_object}
 use Rattle.bound_members.specs.bound_calls.specs.bound_forms.specs.Terms.{Env, Given, a_host_member, expression_of, given_by_name, has_names, no_names}
 use Rattle.bound_members.specs.bound_calls.specs.bound_forms.specs.Terms as plain
-use Rattle.bound_members.specs.bound_calls.specs.bound_forms.specs.ExpressionsBound.{argument_of, arguments_rule, callee, givens, is_called_late, is_instance_type, is_item_name, is_of_host, item_of, late_arguments, member_called, member_takes, indexed, mark_members, takes_arguments, term_of, place_told, may_be_instance, variant_arguments}
-use Rattle.bound_members.specs.bound_calls.specs.bound_forms.specs.StatementsBound.{arguments_written, assigned, assigned_to, broken_target, fits_written, has_written_default, is_given_with, is_indexed_late, is_no_target, is_param_array, is_sub, is_written_member, late_written, member_written, named_written, set_by, takes_value, target_before, unwritten_rule, written_rule, wrong_written}
+use Rattle.bound_members.specs.bound_calls.specs.bound_forms.specs.ExpressionsBound.{argument_of, arguments_rule, callee, givens, is_called_late, is_instance_type, is_item_name, is_of_host, item_of, late_arguments, member_called, member_takes, mark_members, takes_arguments, term_of, place_told, may_be_instance, variant_arguments}
+use Rattle.bound_members.specs.bound_calls.specs.bound_forms.specs.StatementsBound.{arguments_written, assigned, assigned_to, broken_target, fits_written, has_written_default, index_assigned, is_given_with, is_indexed_late, is_no_target, is_param_array, is_sub, is_written_member, late_written, member_written, named_written, set_by, takes_value, target_before, unwritten_rule, written_rule, wrong_written}
 use Rattle.bound_members.specs.bound_calls.specs.declared.term.HostMember.{HostMember}
 use Rattle.bound_members.specs.bound_calls.specs.declared.term.MemberCall.{MemberCall}
 use Rattle.bound_members.specs.bound_calls.specs.declared.term.Item.TheVariants as item
@@ -57,7 +57,7 @@ use Rattle.bound_members.specs.MemberCalls.{EndsCall}
 use Rattle.bound_members.specs.bound_calls.specs.bound_declarations.specs.constant_values.specs.declared_names.specs.binder.specs.Classes.{has_class}
 use Rattle.statement_terms.specs.Called.{ActionIs, MayBe}
 use Rattle.statement_terms.specs.Late.{IsGivenLate, LooksLate, SetsCall, SetsLate, is_written_late}
-use Rattle.statement_terms.specs.Members.{AssignsTerm, AssignsTree, GivesMember, IsReadNamed, IsWritten, WritesBroken, WritesCall, is_written, taken_rule}
+use Rattle.statement_terms.specs.Members.{AssignsIn, AssignsTerm, AssignsTree, GivesMember, IsReadNamed, IsWritten, WritesBroken, WritesCall, is_written, taken_rule}
 use Rattle.statement_terms.proofs.Assigned.{a_target, bare_assigned, bare_given}
 
 -- ---- which members are written
@@ -276,20 +276,20 @@ err_assigned has may place d e eq =
           };
     })
 
-term_assigned : (has : Bool) (may : Option Bool) (x : Tree) (d e : Drafted) (kind : ActionKind) (given : Bool) → AssignsTerm has may x.place x.term d e kind given → AssignsTree has may x d e kind given
+term_assigned : (has : Bool) (may : Option Bool) (x : Tree) (d e : Drafted) (kind : ActionKind) (given : Bool) → AssignsIn (declarations_view x.declared.now) has may x.place x.term d e kind given → AssignsTree has may x d e kind given
 term_assigned has may x d e kind given a = record {
   grown = a.grown;
   named = a.named;
   takes = λ env tree below bare h. bare_given env tree bare ∙ a.takes env (term_of env tree) d.pieces below h.term_is;
   stands = λ env known tree value goes bare target h.
       let B : Place → Type 0 = λ (p : Place). ActionIs kind (assigned env p value [] (term_of env tree)) e.tables e.pieces in
-      let m = subst B h.place_is (a.stands env known (term_of env tree) value goes h.term_is) in
+      let m = subst B h.place_is (a.stands env known h.declared_is (term_of env tree) value goes h.term_is) in
       record { made = m.made; is = bare_assigned env tree value bare target ∙ m.is; fits = m.fits };
 }
 
-pub tree_assigned : (has : Bool) (may : Option Bool) (x : Tree) (t : Term) (d e : Drafted) (kind k : ActionKind) (given g : Bool) → x.term ≡ t → k ≡ kind → g ≡ given → AssignsTerm has may x.place t d e kind given → AssignsTree has may x d e k g
+pub tree_assigned : (has : Bool) (may : Option Bool) (x : Tree) (t : Term) (d e : Drafted) (kind k : ActionKind) (given g : Bool) → x.term ≡ t → k ≡ kind → g ≡ given → AssignsIn (declarations_view x.declared.now) has may x.place t d e kind given → AssignsTree has may x d e k g
 tree_assigned has may x t d e kind k given g is same flag a =
-    let T : Term → Type 0 = λ (y : Term). AssignsTerm has may x.place y d e kind given in
+    let T : Term → Type 0 = λ (y : Term). AssignsIn (declarations_view x.declared.now) has may x.place y d e kind given in
     let K : ActionKind → Type 0 = λ (l : ActionKind). AssignsTree has may x d e l given in
     let G : Bool → Type 0 = λ (b : Bool). AssignsTree has may x d e k b in
     subst G (sym flag) (subst K (sym same) (term_assigned has may x d e kind given (subst T (sym is) a)))
@@ -377,7 +377,7 @@ pub indexed_assigned : (env : Env) (base : Expr) (left right : Token) (args : Ar
 indexed_assigned env base left right args object m value h =
     let p = place_told base in
     a_target env (index base left args right) value (member_target env base left right args object m h)
-    ∙ ap (λ (t : plain.Term). if takes_value env t then assigned env p value (givens env args) t else assigned env p value [] (indexed env p t (givens env args))) h
+    ∙ ap (λ (t : plain.Term). if takes_value env t then assigned env p value (givens env args) t else index_assigned env p t (givens env args) value) h
 
 -- in a project without a class nothing is an object of one
 no_instance_there : (env : Env) (value : bound.Expr) → has_class env.scope.spaces ≡ false → may_be_instance env value ≡ false

@@ -1,6 +1,6 @@
 -- Places and values that are assigned to.
 use Rattle.std.proofs.Common.{◌≡◌, ℕ, Bool, true, false, List, [], ◌∷◌, Option, Some, None, if◌then◌else◌, refl, sym, ap, subst, ◌∙◌}
-use Rattle.std.specs.Prelude.{◌&&◌, ◌||◌, not, IfSome, MatchBool}
+use Rattle.std.specs.Prelude.{◌||◌, not, IfSome, MatchBool}
 use Rattle.vba_base.specs.declared.place.Place.{Place}
 use Rattle.vba_values.specs.Types.{Declared}
 use Rattle.vba_values.specs.Types as type
@@ -13,24 +13,31 @@ use Rattle.bound_project.specs.declared.statement.ActionKind.{ActionKind}
 use Rattle.bound_project.specs.declared.statement.ActionKind.TheVariants as action
 use Rattle.bound_project.specs.declared.variable.Variable.{Variable}
 use Rattle.bound_project.specs.Bodies.{action_of, element_found, item_found}
-use Rattle.bound_project.specs.Expressions.{Exprs, Lvalue, no_exprs, also, expr, constant, load, err_value, marked, element_value, field_value, unary, binary, call, same, is_type, library, host_member, named_member, late_item, late_member, none_given, no_args, in_order, load_made, method, item, element_along}
+use Rattle.bound_project.specs.Expressions.{Exprs, Lvalue, no_exprs, also, expr, constant, load, err_value, marked, element_value, field_value, unary, binary, call, same, is_type, library, host_member, named_member, this, late_item, late_member, none_given, no_args, in_order, load_made, method, item, element_along}
 use Rattle.bound_project.specs.Expressions as bound
 use Rattle.bound_project.specs.Pieces.{Piece, Tables, a_place, an_expr, arguments_off, as_operand, expr_of, exprs_off, given_off, misfit, by_name_in, name_in, of_place, of_place_found, of_value, of_value_found, order_in, put, put_kind, sought_in}
 use Rattle.bound_project.specs.Drafts.{ActionNamed, Drafted}
 use Rattle.bound_project.specs.Statements.{Action, assign, assign_default, assign_element, assign_item, assign_through}
+use Rattle.bound_project.specs.Project as project
 use Rattle.bound_project.specs.View.{base_view, declared_view, variable_view}
 use Rattle.bound_members.specs.bound_calls.specs.bound_declarations.specs.constant_values.specs.declared_names.specs.binder.specs.Types.{is_object}
+use Rattle.bound_members.specs.bound_calls.specs.bound_declarations.specs.constant_values.specs.declared_names.specs.binder.specs.Classes.{class_in}
 use Rattle.bound_members.specs.bound_calls.specs.bound_forms.specs.Terms.{Env, expression_of, read_of}
 use Rattle.bound_members.specs.bound_calls.specs.bound_forms.specs.Terms as plain
-use Rattle.bound_members.specs.bound_calls.specs.bound_forms.specs.ExpressionsBound.{HostKind, has_object, host_kind, is_found_late, is_of_class, kind_by_type, may_be_instance}
-use Rattle.bound_members.specs.bound_calls.specs.bound_forms.specs.StatementsBound.{assigned, broken_target, default_written, has_written_default, is_indexed_late, is_unassignable, not_assignable, place_assigned, takes_value, value_written, write_rule, written_or_broken}
+use Rattle.bound_members.specs.bound_calls.specs.bound_forms.specs.ClassDefaults.{class_written}
+use Rattle.bound_members.specs.bound_calls.specs.bound_forms.specs.ClassDefaults as defaults
+use Rattle.bound_members.specs.bound_calls.specs.bound_forms.specs.ExpressionsBound.{HostKind, has_object, host_kind, is_found_late, is_of_class, may_be_instance}
+use Rattle.bound_members.specs.bound_calls.specs.bound_forms.specs.StatementsBound.{assigned, broken_target, class_written_or_broken, default_written, has_written_default, is_indexed_late, is_unassignable, not_assignable, place_assigned, takes_value, value_written, write_rule, written_or_broken, written_through}
 use Rattle.bound_members.specs.bound_calls.specs.declared.term.Ending.{Ending}
 use Rattle.bound_members.specs.declared.kinds.HostKind as declared
 use Rattle.bound_members.specs.Kinds.{EndingOfKind, kind_view}
 use Rattle.bound_members.specs.bound_calls.specs.declared.term.Term.{Term}
 use Rattle.bound_members.specs.bound_calls.specs.declared.term.Term.TheVariants as term
 use Rattle.bound_members.specs.bound_calls.specs.Calls.{node_of}
-use Rattle.bound_members.specs.bound_calls.specs.References.{EndingGives, IsFoundLate}
+use Rattle.bound_members.specs.bound_calls.specs.class_defaults.specs.Known.{known_view}
+use Rattle.bound_members.specs.bound_calls.specs.class_defaults.specs.declared.known.Known.{Known}
+use Rattle.bound_members.specs.bound_calls.specs.class_defaults.specs.declared.known.Known.TheVariants as known_of
+use Rattle.bound_members.specs.bound_calls.specs.References.{EndingGives, IsFoundLate, IsInstance}
 use Rattle.bound_members.specs.bound_calls.specs.Standing.{PlaceEnds, ValueEnds}
 use Rattle.bound_members.specs.bound_calls.specs.Taking.{broken_ending, read_kind}
 use Rattle.bound_members.specs.bound_calls.proofs.Growing.{grown_pieces, grown_same}
@@ -40,8 +47,9 @@ use Rattle.bound_members.specs.bound_calls.specs.bound_declarations.specs.consta
 use Rattle.bound_members.specs.bound_calls.specs.bound_declarations.specs.constant_values.specs.declared_names.specs.binder.specs.Constants.{is_variant}
 use Rattle.bound_members.specs.bound_calls.specs.bound_declarations.specs.constant_values.specs.declared_names.specs.binder.specs.Declarations.{Written}
 use Rattle.bound_members.specs.bound_calls.specs.bound_declarations.specs.constant_values.specs.declared_names.specs.binder.specs.Scopes.{Space}
-use Rattle.statement_terms.specs.Members.{AssignsTerm}
-use Rattle.statement_terms.specs.Targets.{AssignsIndexed, EndsItem, EndsLate, EndsObject, EndsValue, EndsWrong, IndexedLate, IsLateValue, default_kind, ends_unassignable, ends_value, gives_object, is_item_along, is_library, is_value_kind, numbers_along}
+use Rattle.statement_terms.specs.Members.{AssignsIn, AssignsTerm}
+use Rattle.statement_terms.specs.Targets.{AssignsIndexed, EndsItem, EndsLate, EndsObject, EndsValue, EndsWrong, IndexedLate, IsLateValue, WrittenIs, default_kind, ends_unassignable, ends_value, gives_object, is_item_along, is_kept, is_value_kind, kind_known, numbers_along}
+use Rattle.bound_members.specs.bound_calls.specs.class_defaults.proofs.Passed.{class_is}
 use Rattle.bound_members.specs.bound_calls.proofs.Taking.{read_ends}
 
 -- ---- places
@@ -142,21 +150,52 @@ along_assigned place at count d none along has bounded lends makes may = record 
       };
 }
 
--- the default member of an object of a kind
-kind_written : (env : Env) (place : Place) (made : bound.Node) (of : Declared) (v : bound.Expr) (k : Option HostKind) (rule : Option ℕ) → host_kind made of ≡ k → write_rule k ≡ rule
-    → default_written env place made of v ≡ written_or_broken env rule place (expression_of made place of) of v
-kind_written env place made of v k rule h w =
+-- what is known of the default member of an object that is written: of one of no class by its kind, and of one of a class by
+-- what the project declares
+written_plainly : (env : Env) (place : Place) (made : bound.Node) (of : Declared) (v : bound.Expr) → class_in of ≡ None
+    → default_written env place made of v ≡ written_or_broken env (write_rule (host_kind made of)) place (expression_of made place of) of v
+written_plainly env place made (type.class n) v h = let e : Some n ≡ None = h in absurd cc
+written_plainly env place made of v h = refl
+
+kind_known_is : (env : Env) (rule : Option ℕ) (place : Place) (target : bound.Expr) (of : Declared) (v : bound.Expr)
+    → written_or_broken env rule place target of v ≡ class_written_or_broken env (kind_known rule of) place target v
+kind_known_is env (Some rule) place target of v = refl
+kind_known_is env None place target of v = by (has_written_default of)
+  where
+    by : (b : Bool) → (if b then Some (written_through env target v) else None) ≡ class_written_or_broken env (if b then defaults.known type.variant else defaults.not_said) place target v
+    by true = refl
+    by false = refl
+
+pub host_is_known : (ending : Ending) (kind : declared.HostKind) (found : Known) → class_in (declared_view ending.of) ≡ None → EndingOfKind ending kind
+    → known_view found ≡ kind_known (write_rule (Some (kind_view kind))) (declared_view ending.of) → (all : project.Declarations) → WrittenIs all ending found
+host_is_known ending kind found none is k all env t made place v ps below alike ends =
+    let of = declared_view ending.of in
     let target = expression_of made place of in
-    ap (λ (o : Option HostKind). written_or_broken env (write_rule o) place target of v) h ∙ ap (λ (r : Option ℕ). written_or_broken env r place target of v) w
+    written_plainly env place made of v none
+    ∙ ap (λ (o : Option HostKind). written_or_broken env (write_rule o) place target of v) (is t made ps below ends)
+    ∙ kind_known_is env (write_rule (Some (kind_view kind))) place target of v
+    ∙ ap (λ (z : defaults.Known). class_written_or_broken env z place target v) (sym k)
+
+pub class_is_known : (all : project.Declarations) (ending : Ending) (number : ℕ) (found : Known) → class_in (declared_view ending.of) ≡ Some number → known_view found ≡ class_written all number → WrittenIs all ending found
+class_is_known all ending number found is k env t made place v ps below alike ends =
+    let same = class_is (declared_view ending.of) number is in
+    let target = expression_of made place (type.class number) in
+    ap (λ (u : Declared). default_written env place made u v) same
+    ∙ ap (λ (z : project.Declarations). class_written_or_broken env (class_written z number) place target v) alike
+    ∙ ap (λ (z : defaults.Known). class_written_or_broken env z place target v) (sym k)
+    ∙ ap (λ (u : Declared). class_written_or_broken env (known_view found) place (expression_of made place u) v) (sym same)
 
 -- what is done with the default member of what may be an object of a class, or not
 abbrev default_action : (through : Bool) → (target value : bound.Expr) → Action
 default_action true target value = assign_through target value
 default_action false target value = assign_default target value
 
-default_picked : (through : Bool) (target value : bound.Expr) → (if through then Some (assign_through target value) else Some (assign_default target value)) ≡ Some (default_action through target value)
-default_picked true target value = refl
-default_picked false target value = refl
+through_is : (env : Env) (target value : bound.Expr) (through : Bool) → may_be_instance env target ≡ through → written_through env target value ≡ default_action through target value
+through_is env target value through may = ap (λ (b : Bool). if b then assign_through target value else assign_default target value) may ∙ by through
+  where
+    by : (b : Bool) → (if b then assign_through target value else assign_default target value) ≡ default_action b target value
+    by true = refl
+    by false = refl
 
 default_fits : (t : Tables) (through : Bool) (target value : bound.Expr) → action_of t (default_kind through) (an_expr target ∷ an_expr value ∷ []) ≡ Some (default_action through target value)
 default_fits t true target value = refl
@@ -166,67 +205,32 @@ default_named : (t : Tables) (through : Bool) → ActionNamed t (default_kind th
 default_named t true = tt
 default_named t false = tt
 
--- what has a default member that is written isn't declared as of a class
-written_no_class : (of : Declared) → has_written_default of ≡ true → is_of_class of ≡ false
-written_no_class type.object h = refl
-written_no_class type.range h = refl
-written_no_class type.variant h = refl
-written_no_class of h = let e : false ≡ true = h in absurd cc
-
-found_may : (env : Env) (target : bound.Expr) (of : Declared) (through : Bool) → has_written_default of ≡ true → (not (is_of_class of) && may_be_instance env target) ≡ through → may_be_instance env target ≡ through
-found_may env target of through written h = sym (ap (λ (b : Bool). not b && may_be_instance env target) (written_no_class of written)) ∙ h
-
-default_done : (env : Env) (place : Place) (made : bound.Node) (of : Declared) (v : bound.Expr) (k : Option HostKind) (through : Bool) → host_kind made of ≡ k → write_rule k ≡ None → has_written_default of ≡ true
-    → may_be_instance env (expression_of made place of) ≡ through → default_written env place made of v ≡ Some (default_action through (expression_of made place of) v)
-default_done env place made of v k through h w d may =
-    let target = expression_of made place of in
-    let either : Option Action = if may_be_instance env target then Some (assign_through target v) else Some (assign_default target v) in
-    kind_written env place made of v k None h w ∙ ap (λ (b : Bool). if not b then None else either) d
-    ∙ ap (λ (b : Bool). if b then Some (assign_through target v) else Some (assign_default target v)) may ∙ default_picked through target v
-
--- a place whose type has a default member that is written
-type_written : (of : Declared) → has_written_default of ≡ true → write_rule (kind_by_type of) ≡ None
-type_written type.object h = refl
-type_written type.range h = refl
-type_written type.variant h = refl
-type_written of h = let e : false ≡ true = h in absurd cc
-
--- what reads a place is no object that is always there
-read_kind_of : (makes : Bool) (x : Lvalue) (of : Declared) → host_kind (read_of makes x) of ≡ kind_by_type of
-read_kind_of true x of = refl
-read_kind_of false x of = refl
-
-to_object : (env : Env) (place : Place) (v : bound.Expr) (t : plain.Term) (x : Lvalue) (of : Declared) (bounded lends makes through : Bool) → t ≡ plain.a_place x of bounded lends makes → is_object of ≡ true → has_written_default of ≡ true
-    → may_be_instance env (expression_of (read_of makes x) place of) ≡ through → assigned env place v [] t ≡ Some (default_action through (expression_of (read_of makes x) place of) v)
-to_object env place v t x of bounded lends makes through e h k may =
-    ap (λ (z : plain.Term). assigned env place v [] z) e ∙ ap (λ (b : Bool). if b then default_written env place (read_of makes x) of v else Some (place_assigned x v)) h
-    ∙ default_done env place (read_of makes x) of v (kind_by_type of) through (read_kind_of makes x of) (type_written of k) k may
-
-pub object_assigned : (place : Place) (at : Ending) (makes through : Bool) (d f e : Drafted) → is_object (declared_view at.of) ≡ true → has_written_default (declared_view at.of) ≡ true
+-- a place of an object that has one
+pub object_assigned : (place : Place) (at : Ending) (makes through : Bool) (d f e : Drafted) → is_object (declared_view at.of) ≡ true
     → f ≡ record d { pieces = put d.tables (node_of at.kind place at.of) d.pieces } → e ≡ record f { pieces = put f.tables (node_of (read_kind makes) place at.of) f.pieces }
-    → (has bounded lends : Bool) (may : Option Bool) → IsFoundLate has d.tables (record { kind = read_kind makes; of = at.of }) through
-    → AssignsTerm has may place (term.Place at.kind at.of bounded lends makes) d e (default_kind through) false
-object_assigned place at makes through d f e object written first second has bounded lends may late =
+    → (all : project.Declarations) (u : DeclaredType) (has bounded lends : Bool) (may : Option Bool) → WrittenIs all (record { kind = read_kind makes; of = at.of }) (known_of.Type u)
+    → IsInstance has d.tables (record { kind = read_kind makes; of = at.of }) through → AssignsIn all has may place (term.Place at.kind at.of bounded lends makes) d e (default_kind through) false
+object_assigned place at makes through d f e object first second all u has bounded lends may written instance =
     let n = node_of at.kind place at.of in
     let m = node_of (read_kind makes) place at.of in
     let low = put d.tables n d.pieces in
     let E : Drafted = record d { pieces = put d.tables m low } in
-    let P : Drafted → Type 0 = λ (z : Drafted). AssignsTerm has may place (term.Place at.kind at.of bounded lends makes) d z (default_kind through) false in
+    let P : Drafted → Type 0 = λ (z : Drafted). AssignsIn all has may place (term.Place at.kind at.of bounded lends makes) d z (default_kind through) false in
     let is : e ≡ E = second ∙ ap (λ (z : Drafted). record z { pieces = put z.tables m z.pieces }) first in
     subst P (sym is) (record {
       grown = grown_pieces d (put d.tables m low);
       named = default_named d.tables through;
       takes = λ env z ps below h. ap (λ (y : plain.Term). takes_value env y) h.is;
-      stands = λ env known z value goes h.
+      stands = λ env known alike z value goes h.
           let below : List Piece = an_expr value ∷ [] in
           let made = read_of makes h.at in
           let of = declared_view at.of in
           let target = expression_of made place of in
           let ends = read_ends makes d.tables h.at low below (h.ends n) in
-          let may_be = found_may env target of through written (late env made place low below known ends) in
           record {
             made = default_action through target value;
-            is = to_object env place value z h.at of bounded lends makes through h.is object written may_be;
+            is = ap (λ (y : plain.Term). assigned env place value [] y) h.is ∙ ap (λ (b : Bool). if b then default_written env place made of value else Some (place_assigned h.at value)) object
+                ∙ written env d.tables made place value low below alike ends ∙ ap (λ (a : Action). Some a) (through_is env target value through (instance env made place low below known ends));
             fits = ap (λ (ps : List Piece). action_of d.tables (default_kind through) ps) (ends m) ∙ default_fits d.tables through target value;
           };
     })
@@ -240,33 +244,34 @@ mark_node rule place = node_of (broken_ending rule place 2).kind place (broken_e
 evaluated : (t : Tables) (rule : ℕ) (place : Place) (v target : bound.Expr) (ps : List Piece) → ps ≡ an_expr target ∷ an_expr v ∷ [] → action_of t action.Evaluate (put t (mark_node rule place) ps) ≡ Some (broken_target rule place v (also target no_exprs))
 evaluated t rule place v target ps h = ap (λ (st : List Piece). action_of t action.Evaluate (put t (mark_node rule place) st)) h
 
--- a variable of an object whose default member isn't written
-to_unwritten : (env : Env) (place : Place) (v : bound.Expr) (t : plain.Term) (x : Lvalue) (of : Declared) (bounded lends makes : Bool) (rule : ℕ) → t ≡ plain.a_place x of bounded lends makes → is_object of ≡ true → write_rule (kind_by_type of) ≡ Some rule
-    → assigned env place v [] t ≡ Some (broken_target rule place v (also (expression_of (read_of makes x) place of) no_exprs))
-to_unwritten env place v t x of bounded lends makes rule e object broken =
-    ap (λ (z : plain.Term). assigned env place v [] z) e ∙ ap (λ (b : Bool). if b then default_written env place (read_of makes x) of v else Some (place_assigned x v)) object
-    ∙ kind_written env place (read_of makes x) of v (kind_by_type of) (Some rule) (read_kind_of makes x of) broken
-
-pub unwritten_assigned : (place : Place) (at : Ending) (makes : Bool) (rule : ℕ) (d f g e : Drafted) → is_object (declared_view at.of) ≡ true → write_rule (kind_by_type (declared_view at.of)) ≡ Some rule
+-- a place of an object whose default member isn't written
+pub unwritten_assigned : (place : Place) (at : Ending) (makes : Bool) (rule : ℕ) (d f g e : Drafted) → is_object (declared_view at.of) ≡ true
     → f ≡ record d { pieces = put d.tables (node_of at.kind place at.of) d.pieces } → g ≡ record f { pieces = put f.tables (node_of (read_kind makes) place at.of) f.pieces }
-    → e ≡ record g { pieces = put g.tables (mark_node rule place) g.pieces } → (has bounded lends : Bool) (may : Option Bool) → AssignsTerm has may place (term.Place at.kind at.of bounded lends makes) d e action.Evaluate false
-unwritten_assigned place at makes rule d f g e object broken first second third has bounded lends may =
+    → e ≡ record g { pieces = put g.tables (mark_node rule place) g.pieces } → (all : project.Declarations) (has bounded lends : Bool) (may : Option Bool)
+    → WrittenIs all (record { kind = read_kind makes; of = at.of }) (known_of.Breaks rule) → AssignsIn all has may place (term.Place at.kind at.of bounded lends makes) d e action.Evaluate false
+unwritten_assigned place at makes rule d f g e object first second third all has bounded lends may broken =
     let n = node_of at.kind place at.of in
     let m = node_of (read_kind makes) place at.of in
-    let low = put d.tables m (put d.tables n d.pieces) in
+    let high = put d.tables n d.pieces in
+    let low = put d.tables m high in
     let two : g ≡ record d { pieces = low } = second ∙ ap (λ (z : Drafted). record z { pieces = put z.tables m z.pieces }) first in
     let is : e ≡ record d { pieces = put d.tables (mark_node rule place) low } = third ∙ ap (λ (z : Drafted). record z { pieces = put z.tables (mark_node rule place) z.pieces }) two in
-    let P : Drafted → Type 0 = λ (z : Drafted). AssignsTerm has may place (term.Place at.kind at.of bounded lends makes) d z action.Evaluate false in
+    let P : Drafted → Type 0 = λ (z : Drafted). AssignsIn all has may place (term.Place at.kind at.of bounded lends makes) d z action.Evaluate false in
     subst P (sym is) (record {
       grown = grown_pieces d (put d.tables (mark_node rule place) low);
       named = tt;
       takes = λ env z ps below h. ap (λ (y : plain.Term). takes_value env y) h.is;
-      stands = λ env known z value goes h.
-          let target = expression_of (read_of makes h.at) place (declared_view at.of) in
+      stands = λ env known alike z value goes h.
+          let below : List Piece = an_expr value ∷ [] in
+          let made = read_of makes h.at in
+          let of = declared_view at.of in
+          let target = expression_of made place of in
+          let ends = read_ends makes d.tables h.at high below (h.ends n) in
           record {
             made = broken_target rule place value (also target no_exprs);
-            is = to_unwritten env place value z h.at (declared_view at.of) bounded lends makes rule h.is object broken;
-            fits = evaluated d.tables rule place value target low (read_ends makes d.tables h.at (put d.tables n d.pieces) (an_expr value ∷ []) (h.ends n) m);
+            is = ap (λ (y : plain.Term). assigned env place value [] y) h.is ∙ ap (λ (b : Bool). if b then default_written env place made of value else Some (place_assigned h.at value)) object
+                ∙ broken env d.tables made place value high below alike ends;
+            fits = evaluated d.tables rule place value target low (ends m);
           };
     })
 
@@ -278,11 +283,13 @@ is_element node = false
 
 abbrev is_use : bound.Node → Bool
 is_use (library f text_form es compare base) = true
+is_use this = true
 is_use node = false
 
 -- neither that nor what arguments lead to in the run gives an object that is written
 abbrev is_apart : bound.Node → Bool
 is_apart (library f text_form es compare base) = true
+is_apart this = true
 is_apart (late_item e es) = true
 is_apart node = false
 
@@ -321,17 +328,17 @@ no_element : (t : Tables) (k : NodeKind) (made : bound.Node) (ps below : List Pi
 unfolding none_on_top
 no_element t k made ps below h ends = not_true (is_element made) (sym (ap none_on_top (ends any_node)) ∙ no_element_there t any_node k ps h)
 
--- no use of a function of the library is on top, and nothing that arguments lead to in the run
+-- no use of a function of the library is on top, not Me, and nothing that arguments lead to in the run
 no_use_on_top : List Piece → Bool
 no_use_on_top (an_expr (expr made place of operand) ∷ st) = not (is_apart made)
 no_use_on_top st = true
 
-no_use_there : (t : Tables) (n : Node) (k : NodeKind) (st : List Piece) → is_library k ≡ false → is_item_along k ≡ false → is_value_kind k ≡ true → no_use_on_top (put_kind t n k st) ≡ true
+no_use_there : (t : Tables) (n : Node) (k : NodeKind) (st : List Piece) → is_kept k ≡ false → is_item_along k ≡ false → is_value_kind k ≡ true → no_use_on_top (put_kind t n k st) ≡ true
 unfolding no_use_on_top
 no_use_there t n (kinds.Constant i) st h along value = refl
 no_use_there t n kinds.Load st h along value = place_passes no_use_on_top refl (λ x. expr_of n (load x)) (λ x rest. refl) st
 no_use_there t n kinds.LoadMade st h along value = place_passes no_use_on_top refl (λ x. expr_of n (load_made x)) (λ x rest. refl) st
-no_use_there t n kinds.This st h along value = refl
+no_use_there t n kinds.This st h along value = let e : true ≡ false = h in absurd cc
 no_use_there t n (kinds.NewObject c) st h along value = refl
 no_use_there t n (kinds.Method p count) st h along value = object_found_passes no_use_on_top refl (λ e args. expr_of n (method e p args)) (λ e args rest. refl) (arguments_off count st no_args)
 no_use_there t n (kinds.MethodInOrder p count order) st h along value =
@@ -372,7 +379,7 @@ or_none : (a b : Bool) → a ≡ false → b ≡ false → (a || b) ≡ false
 or_none true b h k = h
 or_none false b h k = k
 
-no_use : (e : Ending) (t : Tables) (made : bound.Node) (ps below : List Piece) → is_library e.kind ≡ false → is_item_along e.kind ≡ false → is_value_kind e.kind ≡ true → ValueEnds t e.kind made ps below → is_apart made ≡ false
+no_use : (e : Ending) (t : Tables) (made : bound.Node) (ps below : List Piece) → is_kept e.kind ≡ false → is_item_along e.kind ≡ false → is_value_kind e.kind ≡ true → ValueEnds t e.kind made ps below → is_apart made ≡ false
 unfolding no_use_on_top
 no_use e t made ps below other along value ends = not_true (is_apart made) (sym (ap no_use_on_top (ends any_node)) ∙ no_use_there t any_node e.kind ps other along value)
 
@@ -382,18 +389,20 @@ object_gives : (made : bound.Node) (of : Declared) → is_apart made ≡ false �
 object_gives (late_item x es) of n h = let e : true ≡ false = n in absurd cc
 object_gives (element_value x es) of n h = h
 object_gives (library f text_form es compare base) of n h = let e : true ≡ false = n in absurd cc
+object_gives this of n h = let e : true ≡ false = n in absurd cc
 object_gives made of n h = or_left (is_object of) (has_object made of) h
 
-pub ends_object : (e : Ending) → is_library e.kind ≡ false → is_item_along e.kind ≡ false → is_value_kind e.kind ≡ true → is_object (declared_view e.of) ≡ true → EndsObject e
+pub ends_object : (e : Ending) → is_kept e.kind ≡ false → is_item_along e.kind ≡ false → is_value_kind e.kind ≡ true → is_object (declared_view e.of) ≡ true → EndsObject e
 ends_object e other along value object t made ps below ends = object_gives made (declared_view e.of) (no_use e t made ps below other along value ends) object
 
 variant_gives : (made : bound.Node) (of : Declared) → is_element made ≡ false → is_apart made ≡ false → has_object made of ≡ true → gives_object made of ≡ true
 variant_gives (late_item x es) of n u h = let e : true ≡ false = u in absurd cc
 variant_gives (element_value x es) of n u h = let e : true ≡ false = n in absurd cc
 variant_gives (library f text_form es compare base) of n u h = let e : true ≡ false = u in absurd cc
+variant_gives this of n u h = let e : true ≡ false = u in absurd cc
 variant_gives made of n u h = or_right (is_object of) (has_object made of) h
 
-pub ends_variant : (e : Ending) (gives : Bool) → is_library e.kind ≡ false → is_item_along e.kind ≡ false → is_value_kind e.kind ≡ true → ends_value e.kind ≡ true → EndingGives e gives → MatchBool gives (EndsObject e) (Unit {0})
+pub ends_variant : (e : Ending) (gives : Bool) → is_kept e.kind ≡ false → is_item_along e.kind ≡ false → is_value_kind e.kind ≡ true → ends_value e.kind ≡ true → EndingGives e gives → MatchBool gives (EndsObject e) (Unit {0})
 ends_variant e true other along value no_item g = λ t made ps below ends.
     variant_gives made (declared_view e.of) (no_element t e.kind made ps below no_item ends) (no_use e t made ps below other along value ends) (g t made ps below ends)
 ends_variant e false other along value no_item g = tt
@@ -402,37 +411,36 @@ value_default : (env : Env) (place : Place) (v : bound.Expr) (made : bound.Node)
 value_default env place v (late_item x es) of h = let e : false ≡ true = h in absurd cc
 value_default env place v (element_value x es) of h = ap (λ (b : Bool). if b then default_written env place (element_value x es) of v else Some (assign_item x es v)) h
 value_default env place v (library f text_form es compare base) of h = let e : false ≡ true = h in absurd cc
+value_default env place v this of h = let e : false ≡ true = h in absurd cc
 value_default env place v made of h = ap (λ (b : Bool). if b then default_written env place made of v else (if is_unassignable made then Some (not_assignable place v made of) else None)) h
 
-pub value_assigned : (has : Bool) (may : Option Bool) (place : Place) (ending : Ending) (kind : declared.HostKind) (through : Bool) (d e : Drafted) → IsFoundLate has d.tables ending through → EndsObject ending → EndingOfKind ending kind
-    → write_rule (Some (kind_view kind)) ≡ None → has_written_default (declared_view ending.of) ≡ true → e ≡ record d { pieces = put d.tables (node_of ending.kind place ending.of) d.pieces }
-    → AssignsTerm has may place (term.Value ending) d e (default_kind through) false
-value_assigned has may place ending kind through d e late gives known_kind rule written eq =
-    let P : Drafted → Type 0 = λ (z : Drafted). AssignsTerm has may place (term.Value ending) d z (default_kind through) false in
+pub value_assigned : (all : project.Declarations) (u : DeclaredType) (has : Bool) (may : Option Bool) (place : Place) (ending : Ending) (through : Bool) (d e : Drafted) → IsInstance has d.tables ending through → EndsObject ending
+    → WrittenIs all ending (known_of.Type u) → e ≡ record d { pieces = put d.tables (node_of ending.kind place ending.of) d.pieces }
+    → AssignsIn all has may place (term.Value ending) d e (default_kind through) false
+value_assigned all u has may place ending through d e instance gives written eq =
+    let P : Drafted → Type 0 = λ (z : Drafted). AssignsIn all has may place (term.Value ending) d z (default_kind through) false in
     let n = node_of ending.kind place ending.of in
     subst P (sym eq) (record {
       grown = grown_pieces d (put d.tables n d.pieces);
       named = default_named d.tables through;
       takes = λ env z ps below h. ap (λ (y : plain.Term). takes_value env y) h.is;
-      stands = λ env known z value goes h.
+      stands = λ env known alike z value goes h.
           let of = declared_view ending.of in
           let below : List Piece = an_expr value ∷ [] in
           let target = expression_of h.made place of in
-          let may_be = found_may env target of through written (late env h.made place d.pieces below known h.ends) in
           record {
             made = default_action through target value;
             is = ap (λ (y : plain.Term). assigned env place value [] y) h.is ∙ value_default env place value h.made of (gives d.tables h.made d.pieces below h.ends)
-                ∙ default_done env place h.made of value (Some (kind_view kind)) through (known_kind d.tables h.made d.pieces below h.ends) rule written may_be;
+                ∙ written env d.tables h.made place value d.pieces below alike h.ends ∙ ap (λ (a : Action). Some a) (through_is env target value through (instance env h.made place d.pieces below known h.ends));
             fits = ap (λ (ps : List Piece). action_of d.tables (default_kind through) ps) (h.ends n) ∙ default_fits d.tables through target value;
           };
     })
 
 -- ---- values that can't be assigned to
 
-pub known_wrong : (place : Place) (ending : Ending) (kind : declared.HostKind) (rule : ℕ) → EndsObject ending → EndingOfKind ending kind → write_rule (Some (kind_view kind)) ≡ Some rule → EndsWrong ending rule place
-known_wrong place ending kind rule gives known broken env t made value ps below ends =
-    let of = declared_view ending.of in
-    value_default env place value made of (gives t made ps below ends) ∙ kind_written env place made of value (Some (kind_view kind)) (Some rule) (known t made ps below ends) broken
+pub known_wrong : (all : project.Declarations) (place : Place) (ending : Ending) (rule : ℕ) → EndsObject ending → WrittenIs all ending (known_of.Breaks rule) → EndsWrong all ending rule place
+known_wrong all place ending rule gives broken env t made value ps below alike ends =
+    value_default env place value made (declared_view ending.of) (gives t made ps below ends) ∙ broken env t made place value ps below alike ends
 
 -- no other value is on top
 wrong_on_top : List Piece → Bool
@@ -457,27 +465,29 @@ pub unassignable : (t : Tables) (k : NodeKind) (made : bound.Node) (ps below : L
 unfolding wrong_on_top
 unassignable t k made ps below h ends = sym (ap wrong_on_top (ends any_node)) ∙ wrong_there t any_node k ps h
 
--- no other value than a use of a function of the library is on top
+-- no other value than a use of a function of the library, or Me, is on top
 use_on_top : List Piece → Bool
 use_on_top (an_expr (expr made place of operand) ∷ st) = is_use made
 use_on_top st = true
 
-use_there : (t : Tables) (n : Node) (k : NodeKind) (st : List Piece) → is_library k ≡ true → use_on_top (put_kind t n k st) ≡ true
+use_there : (t : Tables) (n : Node) (k : NodeKind) (st : List Piece) → is_kept k ≡ true → use_on_top (put_kind t n k st) ≡ true
 unfolding use_on_top
 use_there t n (kinds.Library f text_form count compare one) st h =
     found_passes use_on_top refl (λ es. expr_of n (library f text_form es compare (base_view one))) (λ es rest. refl) (exprs_off count st no_exprs)
+use_there t n kinds.This st h = refl
 use_there t n k st h = let e : false ≡ true = h in absurd cc
 
-use_is : (t : Tables) (k : NodeKind) (made : bound.Node) (ps below : List Piece) → is_library k ≡ true → ValueEnds t k made ps below → is_use made ≡ true
+use_is : (t : Tables) (k : NodeKind) (made : bound.Node) (ps below : List Piece) → is_kept k ≡ true → ValueEnds t k made ps below → is_use made ≡ true
 unfolding use_on_top
 use_is t k made ps below h ends = sym (ap use_on_top (ends any_node)) ∙ use_there t any_node k ps h
 
 use_written : (env : Env) (place : Place) (v : bound.Expr) (made : bound.Node) (of : Declared) → is_use made ≡ true → value_written env place v made of ≡ Some (not_assignable place v made of)
 use_written env place v (library f text_form es compare base) of h = refl
+use_written env place v this of h = refl
 use_written env place v made of h = let e : false ≡ true = h in absurd cc
 
-pub library_wrong : (ending : Ending) → is_library ending.kind ≡ true → (place : Place) → EndsWrong ending 27 place
-library_wrong ending h place env t made value ps below ends = use_written env place value made (declared_view ending.of) (use_is t ending.kind made ps below h ends)
+pub kept_wrong : (ending : Ending) → is_kept ending.kind ≡ true → (all : project.Declarations) (place : Place) → EndsWrong all ending 27 place
+kept_wrong ending h all place env t made value ps below alike ends = use_written env place value made (declared_view ending.of) (use_is t ending.kind made ps below h ends)
 
 constant_written : (env : Env) (place : Place) (v : bound.Expr) (made : bound.Node) (of : Declared) → is_unassignable made ≡ true → (is_object of || has_object made of) ≡ false → value_written env place v made of ≡ Some (not_assignable place v made of)
 constant_written env place v (constant c) of h none = ap (λ (b : Bool). if b then default_written env place (constant c) of v else Some (not_assignable place v (constant c) of)) none
@@ -487,8 +497,8 @@ constant_written env place v (call p args) of h none = ap (λ (b : Bool). if b t
 constant_written env place v (method e p args) of h none = ap (λ (b : Bool). if b then default_written env place (method e p args) of v else Some (not_assignable place v (method e p args) of)) none
 constant_written env place v made of h none = let e : false ≡ true = h in absurd cc
 
-pub constant_wrong : (ending : Ending) (value : Bool) → ends_unassignable ending.kind ≡ true → MatchBool value (EndsValue ending) (Unit {0}) → MatchBool value ((place : Place) → EndsWrong ending 27 place) (Unit {0})
-constant_wrong ending true h plainly = λ place env t made v ps below ends.
+pub constant_wrong : (ending : Ending) (value : Bool) → ends_unassignable ending.kind ≡ true → MatchBool value (EndsValue ending) (Unit {0}) → MatchBool value ((all : project.Declarations) (place : Place) → EndsWrong all ending 27 place) (Unit {0})
+constant_wrong ending true h plainly = λ all place env t made v ps below alike ends.
     constant_written env place v made (declared_view ending.of) (unassignable t ending.kind made ps below h ends) (plainly t made ps below ends)
 constant_wrong ending false h plainly = tt
 
@@ -496,26 +506,30 @@ pub ends_plain : (ending : Ending) (gives : Bool) → is_object (declared_view e
 ends_plain ending true none g = tt
 ends_plain ending false none g = λ t made ps below ends. or_none (is_object (declared_view ending.of)) (has_object made (declared_view ending.of)) none (g t made ps below ends)
 
-pub value_broken : (place : Place) (ending : Ending) (rule : ℕ) (d f e : Drafted) → EndsWrong ending rule place → f ≡ record d { pieces = put d.tables (node_of ending.kind place ending.of) d.pieces }
-    → e ≡ record f { pieces = put f.tables (mark_node rule place) f.pieces } → (has : Bool) (may : Option Bool) → AssignsTerm has may place (term.Value ending) d e action.Evaluate false
-value_broken place ending rule d f e wrong first second has may =
+pub value_broken : (place : Place) (ending : Ending) (rule : ℕ) (d f e : Drafted) → f ≡ record d { pieces = put d.tables (node_of ending.kind place ending.of) d.pieces }
+    → e ≡ record f { pieces = put f.tables (mark_node rule place) f.pieces } → (all : project.Declarations) (has : Bool) (may : Option Bool) → EndsWrong all ending rule place → AssignsIn all has may place (term.Value ending) d e action.Evaluate false
+value_broken place ending rule d f e first second all has may wrong =
     let n = node_of ending.kind place ending.of in
     let low = put d.tables n d.pieces in
     let is : e ≡ record d { pieces = put d.tables (mark_node rule place) low } = second ∙ ap (λ (z : Drafted). record z { pieces = put z.tables (mark_node rule place) z.pieces }) first in
-    let P : Drafted → Type 0 = λ (z : Drafted). AssignsTerm has may place (term.Value ending) d z action.Evaluate false in
+    let P : Drafted → Type 0 = λ (z : Drafted). AssignsIn all has may place (term.Value ending) d z action.Evaluate false in
     subst P (sym is) (record {
       grown = grown_pieces d (put d.tables (mark_node rule place) low);
       named = tt;
       takes = λ env z ps below h. ap (λ (y : plain.Term). takes_value env y) h.is;
-      stands = λ env known z value goes h.
+      stands = λ env known alike z value goes h.
           let below : List Piece = an_expr value ∷ [] in
           let target = expression_of h.made place (declared_view ending.of) in
           record {
             made = broken_target rule place value (also target no_exprs);
-            is = ap (λ (y : plain.Term). assigned env place value [] y) h.is ∙ wrong env d.tables h.made value d.pieces below h.ends;
+            is = ap (λ (y : plain.Term). assigned env place value [] y) h.is ∙ wrong env d.tables h.made value d.pieces below alike h.ends;
             fits = evaluated d.tables rule place value target low (h.ends n);
           };
     })
+
+-- a place that is no object's, and a member, are what they are in any project
+pub term_in : (all : project.Declarations) (has : Bool) (may : Option Bool) (place : Place) (x : Term) (d e : Drafted) (kind : ActionKind) (given : Bool) → AssignsTerm has may place x d e kind given → AssignsIn all has may place x d e kind given
+term_in all has may place x d e kind given a = record { grown = a.grown; named = a.named; takes = a.takes; stands = λ env known alike z value goes h. a.stands env known z value goes h }
 
 -- ---- elements
 
@@ -541,11 +555,11 @@ item_written : (env : Env) (place : Place) (v base : bound.Expr) (numbers : Expr
 item_written env place v base numbers of h =
     ap (λ (b : Bool). if b then default_written env place (element_value base numbers) of v else Some (assign_item base numbers v)) h
 
-pub item_indexed : (has : Bool) (may : Option Bool) (place : Place) (ending : Ending) (count : ℕ) (d : Drafted) → EndsItem ending count → AssignsIndexed has may place (term.Value ending) d d (action.AssignItem count)
-item_indexed has may place ending count d ends = record {
+pub item_indexed : (all : project.Declarations) (has : Bool) (may : Option Bool) (place : Place) (ending : Ending) (count : ℕ) (d : Drafted) → EndsItem ending count → AssignsIndexed all has may place (term.Value ending) d d (action.AssignItem count)
+item_indexed all has may place ending count d ends = record {
   grown = grown_same d;
   named = tt;
-  stands = λ env known z value goes h.
+  stands = λ env known alike z value goes h.
       let of = declared_view ending.of in
       let below : List Piece = an_expr value ∷ [] in
       let K : NodeKind → Type 0 = λ (k : NodeKind). put_kind d.tables any_node k d.pieces ≡ expr_of any_node h.made ∷ below in
@@ -558,17 +572,24 @@ item_indexed has may place ending count d ends = record {
 }
 
 -- what brackets made
-pub term_indexed : (has : Bool) (may : Option Bool) (place : Place) (x : Term) (d e : Drafted) (kind : ActionKind) → AssignsTerm has may place x d e kind false → AssignsIndexed has may place x d e kind
-term_indexed has may place x d e kind a = record { grown = a.grown; named = a.named; stands = λ env known z value goes h. a.stands env known z value goes h }
+pub term_indexed : (all : project.Declarations) (has : Bool) (may : Option Bool) (place : Place) (x : Term) (d e : Drafted) (kind : ActionKind) → AssignsIn all has may place x d e kind false → AssignsIndexed all has may place x d e kind
+term_indexed all has may place x d e kind a = record { grown = a.grown; named = a.named; stands = λ env known alike z value goes h. a.stands env known alike z value goes h }
 
 -- ---- what arguments index as the run says
 
 pub late_variant : (has : Bool) (t : Tables) (e : Ending) → is_variant (declared_view e.of) ≡ true → EndsLate has t e true
-late_variant has t e h env made place ps below known ends = ap (λ (b : Bool). b || is_found_late env (expression_of made place (declared_view e.of))) h
+late_variant has t e h env made place ps below known ends = ap (λ (b : Bool). b || (is_of_class (declared_view e.of) || is_found_late env (expression_of made place (declared_view e.of)))) h
 
-pub late_other : (has : Bool) (t : Tables) (e : Ending) (late : Option Bool) → is_variant (declared_view e.of) ≡ false → IfSome late (λ b. IsFoundLate has t e b) → IfSome late (λ b. EndsLate has t e b)
-late_other has t e None h l = tt
-late_other has t e (Some b) h l = λ env made place ps below known ends. ap (λ (c : Bool). c || is_found_late env (expression_of made place (declared_view e.of))) h ∙ l env made place ps below known ends
+pub late_class : (has : Bool) (t : Tables) (e : Ending) → is_variant (declared_view e.of) ≡ false → is_of_class (declared_view e.of) ≡ true → EndsLate has t e true
+late_class has t e h c env made place ps below known ends =
+    ap (λ (b : Bool). b || (is_of_class (declared_view e.of) || is_found_late env (expression_of made place (declared_view e.of)))) h
+    ∙ ap (λ (b : Bool). b || is_found_late env (expression_of made place (declared_view e.of))) c
+
+pub late_other : (has : Bool) (t : Tables) (e : Ending) (late : Option Bool) → is_variant (declared_view e.of) ≡ false → is_of_class (declared_view e.of) ≡ false → IfSome late (λ b. IsFoundLate has t e b) → IfSome late (λ b. EndsLate has t e b)
+late_other has t e None h c l = tt
+late_other has t e (Some b) h c l = λ env made place ps below known ends.
+    ap (λ (d : Bool). d || (is_of_class (declared_view e.of) || is_found_late env (expression_of made place (declared_view e.of)))) h
+    ∙ ap (λ (d : Bool). d || is_found_late env (expression_of made place (declared_view e.of))) c ∙ l env made place ps below known ends
 
 pub place_late : (has : Bool) (t : Tables) (kind read : NodeKind) (of : DeclaredType) (bounded lends makes : Bool) (late : Option Bool) → read ≡ read_kind makes → IfSome late (λ b. EndsLate has t (record { kind = read; of = of }) b)
     → IfSome late (λ b. IndexedLate has t (term.Place kind of bounded lends makes) b)
@@ -610,4 +631,5 @@ late_value_indexed has t x e v =
     let P : Term → Type 0 = λ (y : Term). IndexedLate has t y true in
     subst P (sym v.is) (λ env place z ps below known h.
     let of = declared_view e.of in
-    ap (λ (y : plain.Term). is_indexed_late env place y) h.is ∙ or_right (is_variant of) (is_found_late env (expression_of h.made place of)) (v.late env h.made place ps below known h.ends))
+    ap (λ (y : plain.Term). is_indexed_late env place y) h.is ∙ or_right (is_variant of) (is_of_class of || is_found_late env (expression_of h.made place of))
+    (or_right (is_of_class of) (is_found_late env (expression_of h.made place of)) (v.late env h.made place ps below known h.ends)))

@@ -1,9 +1,11 @@
 -- Serves the code: the value of an assignment.
-use Rattle.std.specs.Prelude.{◌≡◌, Bool, true, false, not, List, ◌∷◌, Option, Some, None}
+use Rattle.std.specs.Prelude.{◌≡◌, Bool, true, false, not, List, ◌∷◌, Option, Some, None, if◌then◌else◌}
 use Rattle.vba_base.specs.declared.place.Place.{Place}
 use Rattle.vba_expression.specs.Tree.{Expr}
 use Rattle.bound_project.specs.declared.declared_type.DeclaredType.{DeclaredType}
 use Rattle.bound_project.specs.Expressions as bound
+use Rattle.bound_project.specs.View.{declared_view}
+use Rattle.bound_members.specs.bound_calls.specs.bound_declarations.specs.constant_values.specs.declared_names.specs.binder.specs.Types.{is_object}
 use Rattle.bound_project.specs.Drafts.{Drafted}
 use Rattle.bound_project.specs.Pieces.{Piece, an_expr}
 use Rattle.bound_members.specs.bound_calls.specs.bound_forms.specs.Terms.{Env}
@@ -38,6 +40,10 @@ is_plain x = false
 abbrev pub taken_for : Bool → Env → plain.Term → Place → Option bound.Expr
 taken_for true env t place = given_as env t place
 taken_for false env t place = operand_of env t place
+
+-- whether an operand of a type may be an object of a class: that isn't known where a default member gives an object
+abbrev pub operand_may : DeclaredType → Option Bool
+operand_may of = if is_object (declared_view of) then None else Some false
 
 -- its type, and whether it may be an object of a class
 pub record PushesFor (has : Bool) (may : Option Bool) (given : Bool) (x : Tree) (d e : Drafted) (of : DeclaredType) : Type 0 where

@@ -15,9 +15,11 @@ use Rattle.bound_project.specs.Drafts.{Drafted, ActionNamed}
 use Rattle.bound_project.specs.Expressions as bound
 use Rattle.bound_project.specs.Lists.{above, exprs_of}
 use Rattle.bound_project.specs.Pieces.{Piece, Tables, an_expr, name_in}
+use Rattle.bound_project.specs.Project.{Declarations}
 use Rattle.bound_members.specs.bound_calls.specs.bound_declarations.specs.constant_values.specs.declared_names.specs.binder.specs.Types.{is_object}
 use Rattle.bound_members.specs.bound_calls.specs.bound_forms.specs.Terms.{Env}
 use Rattle.bound_members.specs.bound_calls.specs.bound_forms.specs.Terms as plain
+use Rattle.bound_members.specs.bound_calls.specs.bound_forms.specs.ClassDefaults.{declared_in}
 use Rattle.bound_members.specs.bound_calls.specs.bound_forms.specs.ExpressionsBound.{callee, givens, is_item_name, takes_arguments, term_of, place_told}
 use Rattle.bound_members.specs.bound_calls.specs.bound_forms.specs.StatementsBound.{assigned, assigned_to, broken_target, has_written_default, is_given_with, is_no_target, is_written_member, member_written, takes_value, unwritten_rule}
 use Rattle.bound_members.specs.bound_calls.specs.declared.term.MemberCall.{MemberCall}
@@ -53,6 +55,14 @@ pub record AssignsTerm (has : Bool) (may : Option Bool) (place : Place) (x : Ter
   pub named : ActionNamed e.tables kind
   pub takes : (env : Env) (z : plain.Term) (ps below : List Piece) → TermStands env d.tables x z ps below → takes_value env z ≡ given
   pub stands : (env : Env) → has_class env.scope.spaces ≡ has → (z : plain.Term) (value : bound.Expr) → MayBe env may value → TermStands env d.tables x z d.pieces (an_expr value ∷ [])
+      → ActionIs kind (assigned env place value [] z) e.tables e.pieces
+
+-- the same of a place or a value, in a project that declares this
+pub record AssignsIn (all : Declarations) (has : Bool) (may : Option Bool) (place : Place) (x : Term) (d e : Drafted) (kind : ActionKind) (given : Bool) : Type 0 where
+  pub grown : Grown d e
+  pub named : ActionNamed e.tables kind
+  pub takes : (env : Env) (z : plain.Term) (ps below : List Piece) → TermStands env d.tables x z ps below → takes_value env z ≡ given
+  pub stands : (env : Env) → has_class env.scope.spaces ≡ has → declared_in env.scope ≡ all → (z : plain.Term) (value : bound.Expr) → MayBe env may value → TermStands env d.tables x z d.pieces (an_expr value ∷ [])
       → ActionIs kind (assigned env place value [] z) e.tables e.pieces
 
 -- the same of an expression that doesn't end with arguments in brackets, and is no Sub and no ParamArray

@@ -157,11 +157,18 @@ pub fn assign_tree<'a>(
             makes,
             ..
         } => {
-            let kind = assign_place(draft, Ending { kind, of }, makes, place, has_class)?;
+            let kind = assign_place(
+                draft,
+                Ending { kind, of },
+                makes,
+                place,
+                has_class,
+                tree.declared,
+            )?;
             Ok(as_operand(kind))
         }
         Term::Value(ending) => {
-            let kind = assign_value(draft, ending, place, has_class)?;
+            let kind = assign_value(draft, ending, place, has_class, tree.declared)?;
             Ok(as_operand(kind))
         }
         Term::HostMember(member) => {

@@ -4,7 +4,7 @@ ghost use Rattle.statement_terms.specs.Assigning.{GivenPushed};
 ghost use Rattle.bound_members.specs.bound_calls.specs.Standing.{TermNamed};
 
 use bound_members::bound_calls::bound_declarations::NotYet;
-use bound_members::bound_calls::{Term, Tree, given_ending, push_node};
+use bound_members::bound_calls::{Term, given_ending, push_node};
 use bound_project::Draft;
 use std::alloc::Global;
 use vba_base::{OrMemory, Place};
@@ -19,13 +19,7 @@ pub fn push_term<'a>(
     requires { TermNamed (draft_view draft.old).tables term }
     ensures { OnOk result (GivenPushed term.entry place (draft_view draft.old) (draft_view draft.new)) }
 {
-    let tree = Tree {
-        place,
-        name: None,
-        dotted: None,
-        term,
-    };
-    let ending = given_ending(alloc, draft, tree)?;
+    let ending = given_ending(alloc, draft, term, place)?;
     push_node(draft, ending.kind, ending.of, place)?;
     Ok(())
 }

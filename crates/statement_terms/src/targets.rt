@@ -4,28 +4,29 @@ ghost use Rattle.std.specs.Prelude.{◌≡◌, true, false, Bool, Option, Some, 
 ghost use Rattle.vba_base.specs.declared.place.Place as told;
 ghost use Rattle.bound_project.specs.DraftView.{draft_view};
 ghost use Rattle.bound_project.specs.Drafts.{NodeNamed};
-ghost use Rattle.bound_project.specs.View.{declared_view};
-ghost use Rattle.bound_members.specs.bound_calls.specs.bound_forms.specs.ExpressionsBound.{kind_by_type};
+ghost use Rattle.bound_project.specs.Project as project;
+ghost use Rattle.bound_project.specs.View.{declarations_view, declared_view};
 ghost use Rattle.bound_members.specs.bound_calls.specs.bound_forms.specs.StatementsBound as plain;
+ghost use Rattle.bound_members.specs.bound_calls.specs.bound_declarations.specs.constant_values.specs.declared_names.specs.binder.specs.Classes as classes;
 ghost use Rattle.bound_members.specs.bound_calls.specs.bound_declarations.specs.constant_values.specs.declared_names.specs.binder.specs.Types as types;
 ghost use Rattle.statement_terms.specs.Terms.{may_be_object};
-ghost use Rattle.statement_terms.specs.Members.{AssignsTerm};
-ghost use Rattle.statement_terms.specs.Targets.{AssignsIndexed, EndsItem, EndsLate, EndsObject, EndsValue, EndsWrong, IndexedLate, IsLateValue, default_kind, ends_unassignable, ends_value, is_item_along, is_library, is_value_kind, numbers_along};
-ghost use Rattle.bound_members.specs.bound_calls.specs.References.{IsFoundLate};
+ghost use Rattle.statement_terms.specs.Members.{AssignsIn, AssignsTerm};
+ghost use Rattle.statement_terms.specs.Targets.{AssignsIndexed, EndsItem, EndsLate, EndsObject, EndsValue, EndsWrong, IndexedLate, IsLateValue, WrittenIs, default_kind, ends_unassignable, ends_value, is_item_along, is_kept, is_value_kind, kind_known, numbers_along};
+ghost use Rattle.bound_members.specs.bound_calls.specs.class_defaults.specs.Known.{known_view};
+ghost use Rattle.bound_members.specs.bound_calls.specs.References.{IsInstance};
 ghost use Rattle.bound_members.specs.bound_calls.specs.Taking.{read_kind};
 ghost use Rattle.bound_members.specs.bound_calls.specs.declared.term.Term.TheVariants as term;
 ghost use Rattle.bound_members.specs.bound_calls.specs.Standing.{TermNamed};
-ghost use Rattle.bound_members.specs.declared.kinds.HostKind as declared;
-ghost use Rattle.bound_members.specs.Kinds.{EndingOfKind, kind_view};
+ghost use Rattle.bound_members.specs.Kinds.{kind_view};
 
-use bound_members::bound_calls::bound_declarations::NotYet;
 use bound_members::bound_calls::bound_declarations::constant_values::declared_names::is_object;
+use bound_members::bound_calls::bound_declarations::{NotYet, class_in};
 use bound_members::bound_calls::{
-    Ending, Term, has_object, is_found_late, is_typed_kind, is_variant, push_broken, push_node,
-    read_kind,
+    Ending, Known, Term, class_written, has_object, instance_of, is_found_late, is_of_class,
+    is_typed_kind, is_variant, push_broken, push_node, read_kind,
 };
-use bound_members::{HostKind, is_known_late, kind_of_ending, kind_of_type};
-use bound_project::{ActionKind, DeclaredType, Draft, ElementType, NodeKind};
+use bound_members::{HostKind, is_known_late, kind_of_ending};
+use bound_project::{ActionKind, Declarations, DeclaredType, Draft, ElementType, NodeKind};
 use vba_base::{NoMemory, OrMemory, Place};
 
 /// Is a type one of what may be an object?
@@ -47,12 +48,15 @@ pub fn has_written_default(of: DeclaredType) -> bool
     }
 }
 
-/// Does the run say what arguments lead to that index a value whose last node isn't pushed yet: is it a Variant, or may it be
-/// an object of a class that isn't declared as of one? None where that isn't known.
+/// Does the run say what arguments lead to that index a value whose last node isn't pushed yet: is it a Variant, declared as of
+/// a class, or may it be an object of a class? None where that isn't known.
 fn is_led_late(has_class: bool, draft: &Draft, ending: Ending) -> Option<bool>
     ensures { IfSome result (λ late. EndsLate has_class (draft_view draft.now).tables ending late) }
 {
     if is_variant(ending.of) {
+        return Some(true);
+    }
+    if is_of_class(ending.of) {
         return Some(true);
     }
     is_found_late(has_class, draft, ending)
@@ -130,12 +134,13 @@ fn is_item_along(kind: NodeKind) -> bool
     }
 }
 
-/// Is a node that of a use of a function of the library?
-fn is_library(kind: NodeKind) -> bool
-    ensures { result ≡ is_library kind }
+/// Is a node that of a use of a function of the library, or Me? Nothing is assigned to these.
+fn is_kept(kind: NodeKind) -> bool
+    ensures { result ≡ is_kept kind }
 {
     match kind {
         NodeKind::Library { .. } => true,
+        NodeKind::This => true,
         _ => false,
     }
 }
@@ -166,12 +171,12 @@ pub fn is_unassignable(kind: NodeKind) -> bool
     }
 }
 
-/// Is a value an object, or, where it is no element, what may be one? To a use of a function of the library nothing is
-/// assigned.
+/// Is a value an object, or, where it is no element, what may be one? To a use of a function of the library, and to Me,
+/// nothing is assigned.
 fn gives_object(ending: Ending) -> bool
     ensures { MatchBool result (EndsObject ending) (Unit {0}) }
 {
-    if is_library(ending.kind) || is_item_along(ending.kind) {
+    if is_kept(ending.kind) || is_item_along(ending.kind) {
         return false;
     }
     if !is_value_kind(ending.kind) {
@@ -225,9 +230,9 @@ fn assign_object(
 ) -> Result<ActionKind, NoMemory>
     requires named { NodeNamed (draft_view draft.old).tables at.kind }
     requires object { types.is_object (declared_view at.of) ≡ true }
-    requires written { plain.has_written_default (declared_view at.of) ≡ true }
-    ensures { IfOk result (λ kind. (has bounded lends : Bool) (may : Option Bool) → IsFoundLate has (draft_view draft.old).tables (record { kind = read_kind makes; of = at.of }) through
-        → AssignsTerm has may place (term.Place at.kind at.of bounded lends makes) (draft_view draft.old) (draft_view draft.new) kind false) }
+    ensures { IfOk result (λ kind. (all : project.Declarations) (of : DeclaredType) (has bounded lends : Bool) (may : Option Bool) → WrittenIs all (record { kind = read_kind makes; of = at.of }) (Known.Type of)
+        → IsInstance has (draft_view draft.old).tables (record { kind = read_kind makes; of = at.of }) through
+        → AssignsIn all has may place (term.Place at.kind at.of bounded lends makes) (draft_view draft.old) (draft_view draft.new) kind false) }
 {
     push_node(draft, at.kind, at.of, place)?;
     push_node(draft, read_kind(makes), at.of, place)?;
@@ -244,9 +249,8 @@ fn assign_unwritten(
 ) -> Result<ActionKind, NoMemory>
     requires named { NodeNamed (draft_view draft.old).tables at.kind }
     requires object { types.is_object (declared_view at.of) ≡ true }
-    requires broken { plain.write_rule (kind_by_type (declared_view at.of)) ≡ Some rule }
-    ensures { IfOk result (λ kind. (has bounded lends : Bool) (may : Option Bool)
-        → AssignsTerm has may place (term.Place at.kind at.of bounded lends makes) (draft_view draft.old) (draft_view draft.new) kind false) }
+    ensures { IfOk result (λ kind. (all : project.Declarations) (has bounded lends : Bool) (may : Option Bool) → WrittenIs all (record { kind = read_kind makes; of = at.of }) (Known.Breaks rule)
+        → AssignsIn all has may place (term.Place at.kind at.of bounded lends makes) (draft_view draft.old) (draft_view draft.new) kind false) }
 {
     push_node(draft, at.kind, at.of, place)?;
     push_node(draft, read_kind(makes), at.of, place)?;
@@ -269,14 +273,69 @@ fn write_rule(kind: HostKind) -> Option<u8>
     }
 }
 
-/// The same of an object of a type.
-fn type_rule(of: DeclaredType) -> Option<u8>
-    ensures { result ≡ plain.write_rule (kind_by_type (declared_view of)) }
+/// What is known of an assignment to the default member of an object of a type that breaks no rule.
+fn type_written(of: DeclaredType) -> Known
+    ensures { known_view result ≡ kind_known None (declared_view of) }
 {
-    match kind_of_type(of) {
-        Some(kind) => write_rule(kind),
-        None => None,
+    if has_written_default(of) {
+        Known::Type(DeclaredType::Plain(ElementType::Variant))
+    } else {
+        Known::NotSaid
     }
+}
+
+/// The same of an object of a kind, and of no class.
+fn kind_written(kind: HostKind, of: DeclaredType) -> Known
+    ensures { known_view result ≡ kind_known (plain.write_rule (Some (kind_view kind))) (declared_view of) }
+{
+    match write_rule(kind) {
+        Some(rule) => Known::Breaks(rule),
+        None => type_written(of),
+    }
+}
+
+/// What is known of an assignment to the default member of what a value of no class gives whose last node isn't pushed yet;
+/// none where it isn't known what it gives.
+fn host_known(ending: Ending) -> Option<Known>
+    requires { classes.class_in (declared_view ending.of) ≡ None }
+    ensures { IfSome result (λ found. (all : project.Declarations) → WrittenIs all ending found) }
+{
+    let kind = kind_of_ending(ending)?;
+    Some(kind_written(kind, ending.of))
+}
+
+/// The same of any value, in a project that declares this.
+fn written_known(declared: &Declarations, ending: Ending) -> Option<Known>
+    ensures { IfSome result (λ found. WrittenIs (declarations_view declared.now) ending found) }
+{
+    match class_in(ending.of) {
+        Some(class) => Some(class_written(declared, class)),
+        None => host_known(ending),
+    }
+}
+
+/// A place of an object whose default member is written, behind the value that it is given.
+fn assign_through(
+    draft: &mut Draft,
+    at: Ending,
+    makes: bool,
+    place: Place,
+    has_class: bool,
+) -> Result<ActionKind, OrMemory<NotYet>>
+    requires named { NodeNamed (draft_view draft.old).tables at.kind }
+    requires object { types.is_object (declared_view at.of) ≡ true }
+    ensures { IfOk result (λ kind. (all : project.Declarations) (of : DeclaredType) (bounded lends : Bool) (may : Option Bool) → WrittenIs all (record { kind = read_kind makes; of = at.of }) (Known.Type of)
+        → AssignsIn all has_class may place (term.Place at.kind at.of bounded lends makes) (draft_view draft.old) (draft_view draft.new) kind false) }
+{
+    let read = Ending {
+        kind: read_kind(makes),
+        of: at.of,
+    };
+    let Some(through) = instance_of(has_class, draft, read) else {
+        return Err(OrMemory::Fault(NotYet));
+    };
+    let done = assign_object(draft, at, makes, through, place)?;
+    Ok(done)
 }
 
 /// A place of an object, behind the value that it is given.
@@ -286,28 +345,28 @@ fn assign_default(
     makes: bool,
     place: Place,
     has_class: bool,
+    declared: &Declarations,
 ) -> Result<ActionKind, OrMemory<NotYet>>
     requires named { NodeNamed (draft_view draft.old).tables at.kind }
     requires object { types.is_object (declared_view at.of) ≡ true }
     ensures { IfOk result (λ kind. (bounded lends : Bool) (may : Option Bool)
-        → AssignsTerm has_class may place (term.Place at.kind at.of bounded lends makes) (draft_view draft.old) (draft_view draft.new) kind false) }
+        → AssignsIn (declarations_view declared.now) has_class may place (term.Place at.kind at.of bounded lends makes) (draft_view draft.old) (draft_view draft.new) kind false) }
 {
-    if let Some(rule) = type_rule(at.of) {
-        let broken = assign_unwritten(draft, at, makes, rule, place)?;
-        return Ok(broken);
-    }
     let read = Ending {
         kind: read_kind(makes),
         of: at.of,
     };
-    if !has_written_default(at.of) {
-        return Err(OrMemory::Fault(NotYet));
-    }
-    let Some(through) = is_found_late(has_class, draft, read) else {
+    let Some(found) = written_known(declared, read) else {
         return Err(OrMemory::Fault(NotYet));
     };
-    let done = assign_object(draft, at, makes, through, place)?;
-    Ok(done)
+    match found {
+        Known::Type(_of) => assign_through(draft, at, makes, place, has_class),
+        Known::Breaks(rule) => {
+            let broken = assign_unwritten(draft, at, makes, rule, place)?;
+            Ok(broken)
+        }
+        Known::NotSaid => Err(OrMemory::Fault(NotYet)),
+    }
 }
 
 /// A place, behind the value that it is given.
@@ -317,19 +376,20 @@ pub fn assign_place(
     makes: bool,
     place: Place,
     has_class: bool,
+    declared: &Declarations,
 ) -> Result<ActionKind, OrMemory<NotYet>>
     requires { NodeNamed (draft_view draft.old).tables at.kind }
     ensures { IfOk result (λ kind. (bounded lends : Bool) (may : Option Bool)
-        → AssignsTerm has_class may place (term.Place at.kind at.of bounded lends makes) (draft_view draft.old) (draft_view draft.new) kind false) }
+        → AssignsIn (declarations_view declared.now) has_class may place (term.Place at.kind at.of bounded lends makes) (draft_view draft.old) (draft_view draft.new) kind false) }
 {
     if !is_object(at.of) {
         let plain = assign_plain(draft, at, place)?;
         return Ok(plain);
     }
-    assign_default(draft, at, makes, place, has_class)
+    assign_default(draft, at, makes, place, has_class, declared)
 }
 
-/// What a value gives, whose default member is written where its type has one, behind the value that it is given.
+/// What a value gives, whose default member is written, behind the value that it is given.
 fn assign_written(
     draft: &mut Draft,
     ending: Ending,
@@ -337,13 +397,10 @@ fn assign_written(
     has_class: bool,
 ) -> Result<ActionKind, OrMemory<NotYet>>
     requires { NodeNamed (draft_view draft.old).tables ending.kind }
-    ensures { IfOk result (λ kind. (of : declared.HostKind) (may : Option Bool) → EndsObject ending → EndingOfKind ending of → plain.write_rule (Some (kind_view of)) ≡ None
-        → AssignsTerm has_class may place (term.Value ending) (draft_view draft.old) (draft_view draft.new) kind false) }
+    ensures { IfOk result (λ kind. (all : project.Declarations) (of : DeclaredType) (may : Option Bool) → EndsObject ending → WrittenIs all ending (Known.Type of)
+        → AssignsIn all has_class may place (term.Value ending) (draft_view draft.old) (draft_view draft.new) kind false) }
 {
-    if !has_written_default(ending.of) {
-        return Err(OrMemory::Fault(NotYet));
-    }
-    let Some(through) = is_found_late(has_class, draft, ending) else {
+    let Some(through) = instance_of(has_class, draft, ending) else {
         return Err(OrMemory::Fault(NotYet));
     };
     push_node(draft, ending.kind, ending.of, place)?;
@@ -357,31 +414,32 @@ fn assign_wrong(
     rule: u8,
     place: Place,
 ) -> Result<ActionKind, OrMemory<NotYet>>
-    requires named { NodeNamed (draft_view draft.old).tables ending.kind }
-    requires wrong { EndsWrong ending rule place }
-    ensures { IfOk result (λ kind. (has : Bool) (may : Option Bool) → AssignsTerm has may place (term.Value ending) (draft_view draft.old) (draft_view draft.new) kind false) }
+    requires { NodeNamed (draft_view draft.old).tables ending.kind }
+    ensures { IfOk result (λ kind. (all : project.Declarations) (has : Bool) (may : Option Bool) → EndsWrong all ending rule place
+        → AssignsIn all has may place (term.Value ending) (draft_view draft.old) (draft_view draft.new) kind false) }
 {
     push_node(draft, ending.kind, ending.of, place)?;
     push_broken(draft, rule, place, 2)?;
     Ok(ActionKind::Evaluate)
 }
 
-/// What a value gives of which it is known what it is, behind the value that it is given.
+/// What a value gives of which this is known, behind the value that it is given.
 fn assign_known(
     draft: &mut Draft,
     ending: Ending,
-    of: HostKind,
+    found: Known,
     place: Place,
     has_class: bool,
 ) -> Result<ActionKind, OrMemory<NotYet>>
     requires named { NodeNamed (draft_view draft.old).tables ending.kind }
     requires gives { EndsObject ending }
-    requires known { EndingOfKind ending of }
-    ensures { IfOk result (λ kind. (may : Option Bool) → AssignsTerm has_class may place (term.Value ending) (draft_view draft.old) (draft_view draft.new) kind false) }
+    ensures { IfOk result (λ kind. (all : project.Declarations) (may : Option Bool) → WrittenIs all ending found
+        → AssignsIn all has_class may place (term.Value ending) (draft_view draft.old) (draft_view draft.new) kind false) }
 {
-    match write_rule(of) {
-        Some(rule) => assign_wrong(draft, ending, rule, place),
-        None => assign_written(draft, ending, place, has_class),
+    match found {
+        Known::Type(_of) => assign_written(draft, ending, place, has_class),
+        Known::Breaks(rule) => assign_wrong(draft, ending, rule, place),
+        Known::NotSaid => Err(OrMemory::Fault(NotYet)),
     }
 }
 
@@ -400,9 +458,9 @@ fn is_value(ending: Ending) -> bool
 
 /// Is a value, whatever it is given, one that can't be assigned to?
 fn is_wrong(ending: Ending) -> bool
-    ensures { MatchBool result ((place : told.Place) → EndsWrong ending 27 place) (Unit {0}) }
+    ensures { MatchBool result ((all : project.Declarations) (place : told.Place) → EndsWrong all ending 27 place) (Unit {0}) }
 {
-    if is_library(ending.kind) {
+    if is_kept(ending.kind) {
         return true;
     }
     if !is_unassignable(ending.kind) {
@@ -418,7 +476,7 @@ fn assign_constant(
     place: Place,
 ) -> Result<ActionKind, OrMemory<NotYet>>
     requires { NodeNamed (draft_view draft.old).tables ending.kind }
-    ensures { IfOk result (λ kind. (has : Bool) (may : Option Bool) → AssignsTerm has may place (term.Value ending) (draft_view draft.old) (draft_view draft.new) kind false) }
+    ensures { IfOk result (λ kind. (all : project.Declarations) (has : Bool) (may : Option Bool) → AssignsIn all has may place (term.Value ending) (draft_view draft.old) (draft_view draft.new) kind false) }
 {
     if !is_wrong(ending) {
         return Err(OrMemory::Fault(NotYet));
@@ -432,17 +490,18 @@ pub fn assign_value(
     ending: Ending,
     place: Place,
     has_class: bool,
+    declared: &Declarations,
 ) -> Result<ActionKind, OrMemory<NotYet>>
     requires { NodeNamed (draft_view draft.old).tables ending.kind }
-    ensures { IfOk result (λ kind. (may : Option Bool) → AssignsTerm has_class may place (term.Value ending) (draft_view draft.old) (draft_view draft.new) kind false) }
+    ensures { IfOk result (λ kind. (may : Option Bool) → AssignsIn (declarations_view declared.now) has_class may place (term.Value ending) (draft_view draft.old) (draft_view draft.new) kind false) }
 {
     if !gives_object(ending) {
         return assign_constant(draft, ending, place);
     }
-    let Some(of) = kind_of_ending(ending) else {
+    let Some(found) = written_known(declared, ending) else {
         return Err(OrMemory::Fault(NotYet));
     };
-    assign_known(draft, ending, of, place, has_class)
+    assign_known(draft, ending, found, place, has_class)
 }
 
 /// How many numbers of an item end a value, where it is an element that is no object.
@@ -465,13 +524,14 @@ fn assign_indexed_value(
     ending: Ending,
     place: Place,
     has_class: bool,
+    declared: &Declarations,
 ) -> Result<ActionKind, OrMemory<NotYet>>
     requires { NodeNamed (draft_view draft.old).tables ending.kind }
-    ensures { IfOk result (λ kind. (may : Option Bool) → AssignsIndexed has_class may place (term.Value ending) (draft_view draft.old) (draft_view draft.new) kind) }
+    ensures { IfOk result (λ kind. (may : Option Bool) → AssignsIndexed (declarations_view declared.now) has_class may place (term.Value ending) (draft_view draft.old) (draft_view draft.new) kind) }
 {
     match item_numbers(ending) {
         Some(numbers) => Ok(ActionKind::AssignItem { numbers }),
-        None => assign_value(draft, ending, place, has_class),
+        None => assign_value(draft, ending, place, has_class, declared),
     }
 }
 
@@ -481,9 +541,10 @@ pub fn assign_indexed<'a>(
     term: Term<'a>,
     place: Place,
     has_class: bool,
+    declared: &Declarations,
 ) -> Result<ActionKind, OrMemory<NotYet>>
     requires { TermNamed (draft_view draft.old).tables term }
-    ensures { IfOk result (λ kind. (may : Option Bool) → AssignsIndexed has_class may place term.entry (draft_view draft.old) (draft_view draft.new) kind) }
+    ensures { IfOk result (λ kind. (may : Option Bool) → AssignsIndexed (declarations_view declared.now) has_class may place term.entry (draft_view draft.old) (draft_view draft.new) kind) }
 {
     match term {
         Term::Place {
@@ -491,8 +552,15 @@ pub fn assign_indexed<'a>(
             of,
             makes,
             ..
-        } => assign_place(draft, Ending { kind, of }, makes, place, has_class),
-        Term::Value(ending) => assign_indexed_value(draft, ending, place, has_class),
+        } => assign_place(
+            draft,
+            Ending { kind, of },
+            makes,
+            place,
+            has_class,
+            declared,
+        ),
+        Term::Value(ending) => assign_indexed_value(draft, ending, place, has_class, declared),
         _ => Err(OrMemory::Fault(NotYet)),
     }
 }

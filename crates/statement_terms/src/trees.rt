@@ -59,6 +59,7 @@ pub fn ends_bare(nodes: &[ExpressionNode]) -> bool
         Some((ExpressionNode::Name(_), _)) => true,
         Some((ExpressionNode::Member { .. }, _)) => true,
         Some((ExpressionNode::WithMember { .. }, _)) => true,
+        Some((ExpressionNode::Me(_), _)) => true,
         _ => false,
     }
 }

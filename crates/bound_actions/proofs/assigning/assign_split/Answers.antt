@@ -11,6 +11,7 @@ use Rattle.bound_terms.specs.bound_accesses.specs.bound_names.specs.View.{env_vi
 use Rattle.bound_terms.specs.bound_accesses.specs.bound_names.specs.bound_members.specs.bound_calls.specs.bound_forms.specs.ExpressionsBound.{callee, term_of}
 use Rattle.bound_actions.specs.NoTargets.{IsSub}
 use Rattle.bound_actions.proofs.Assigned.{assigns_indexed, assigns_led, assigns_member, assigns_split}
+use Rattle.bound_actions.proofs.ClassItems.{assigns_class}
 use Rattle.bound_actions.proofs.NoTargets.{split_refused}
 use Rattle.statement_terms.proofs.Assigned.{done_is}
 use Rattle.statement_terms.proofs.NodeTrees.{still_named}
@@ -92,7 +93,7 @@ returns-in-Some-late_value c =
     let K : Bool → Type 0 = λ (b : Bool). MatchBool b (Unit {0}) (KeepsItem has g.tables y) in
     done_is env may (tree_in ns) d e k done.result.kind true done.result.is_given done.ensures.kind done.ensures.given
     (assigns_led has env may (sym c.args.env.has_class_is) c.args.split ns x y c.in-Some-late_value.ending d f g e numbers c.requires.split c.in_ok-tree.ensures c.in_ok-term.ensures no_sub c.in_default.ensures
-    (subst K c.if-takes_item.false c.takes_item.ensures) c.in-Some-late_value.ensures c.in_ok-numbers.ensures)
+    (subst K c.if-takes_item.false c.takes_item.ensures) (sym c.in_default-term_class.ensures) c.in-Some-late_value.ensures c.in_ok-numbers.ensures)
 
 pub returns : goal.returns
 returns c =
@@ -111,4 +112,34 @@ returns c =
     let K : Bool → Type 0 = λ (b : Bool). MatchBool b (Unit {0}) (KeepsItem has g.tables y) in
     IfOk-weaker c.assign_item_of.result _ _
     (λ done i. assigns_indexed has env may (sym c.args.env.has_class_is) c.args.split ns x y d f g e done.kind done.is_given c.requires.split c.if-not-adds_one.ensures c.in_ok-tree.ensures c.in_ok-term.ensures no_sub c.in_default.ensures
-    (subst K c.if-takes_item.false c.takes_item.ensures) i) c.assign_item_of.ensures
+    (subst K c.if-takes_item.false c.takes_item.ensures) (sym c.in_default-term_class.ensures) i) c.assign_item_of.ensures
+
+pub give_led-requires-clause-named : goal.give_led-requires-clause-named
+give_led-requires-clause-named c = c.in_ok-term.ensures.named
+
+pub give_led-requires-clause-class : goal.give_led-requires-clause-class
+give_led-requires-clause-class c = sym c.in-Some-term_class.ensures
+
+pub give_led-requires-clause-one : goal.give_led-requires-clause-one
+give_led-requires-clause-one c = c.if-not-adds_one.ensures
+
+pub returns-in-Some-term_class : goal.returns-in-Some-term_class
+returns-in-Some-term_class c =
+    let env = env_view c.args.env in
+    let has = c.args.env.has_class in
+    let may = c.args.may_be in
+    let ns = c.args.nodes.now in
+    let x = c.in_ok-tree.tree in
+    let y = c.in_ok-term.term in
+    let k = c.in_ok-led.led in
+    let done = c.as_given-in-Some-term_class in
+    let d = draft_view c.args.draft.now in
+    let f = draft_view c.nodes_tree.new.draft in
+    let g = draft_view c.callee_term.new.draft in
+    let e = draft_view c.give_led.new.draft in
+    let base = tree_in c.args.split.target.now in
+    let no_sub = c.is_sub.ensures env g.tables (callee env base (term_of env base)) f.pieces d.pieces (c.in_ok-term.ensures.stands base f.pieces d.pieces c.in_ok-tree.ensures.leaves.stands) ∙ c.if-is_sub.false in
+    let K : Bool → Type 0 = λ (b : Bool). MatchBool b (Unit {0}) (KeepsItem has g.tables y) in
+    done_is env may (tree_in ns) d e k done.result.kind true done.result.is_given done.ensures.kind done.ensures.given
+    (assigns_class has env may (sym c.args.env.has_class_is) c.args.split ns x y c.in-Some-term_class.class d f g e k c.requires.split c.in_ok-tree.ensures c.in_ok-term.ensures no_sub c.in_default.ensures
+    (subst K c.if-takes_item.false c.takes_item.ensures) (sym c.in-Some-term_class.ensures) c.in_ok-led.ensures)

@@ -6,6 +6,7 @@ use Rattle.bound_terms.specs.bound_accesses.specs.bound_names.specs.bound_member
 use Rattle.std.proofs.lemmas.Result.{IfOk-weaker}
 use Rattle.bound_project.specs.DraftView.{draft_view}
 use Rattle.bound_terms.specs.bound_accesses.specs.bound_names.specs.View.{env_view}
+use Rattle.bound_actions.proofs.ClassItems.{sets_class}
 use Rattle.bound_actions.proofs.SetTargets.{sets_led, sets_split, sets_split_item, sets_split_sub, sets_property_split}
 use Rattle.statement_terms.proofs.NodeTrees.{still_named}
 use Rattle.bound_actions.proofs.setting.set_split.Goals as goal
@@ -72,7 +73,7 @@ returns-in-Some-late_value c =
     let K : Bool → Type 0 = λ (b : Bool). MatchBool b (Unit {0}) (KeepsItem has g.tables c.in_ok-term.term) in
     sets_led c.args.set_word has (env_view c.args.env) (sym c.args.env.has_class_is) c.args.split c.args.nodes.now c.in_ok-tree.tree c.in_ok-term.term c.in-Some-late_value.ending d f g e c.in_ok-numbers.numbers c.requires.split c.in_ok-tree.ensures
     c.in_ok-term.ensures (λ env t y ps below q. c.is_sub.ensures env t y ps below q ∙ c.if-is_sub.false) c.in_default.ensures (λ env t y ps below q. c.is_property_term.ensures env t y ps below q ∙ c.if-is_property_term.false)
-    (subst K c.if-takes_item.false c.takes_item.ensures) c.in-Some-late_value.ensures c.in_ok-numbers.ensures
+    (subst K c.if-takes_item.false c.takes_item.ensures) (sym c.in_default-term_class.ensures) c.in-Some-late_value.ensures c.in_ok-numbers.ensures
 
 pub returns : goal.returns
 returns c =
@@ -86,4 +87,23 @@ returns c =
     IfOk-weaker c.set_term.result _ _
     (λ k s. sets_split c.args.set_word has (env_view c.args.env) (sym c.args.env.has_class_is) c.args.split c.args.nodes.now c.in_ok-tree.tree c.in_ok-more.more c.in_ok-term.term d f g h e k c.requires.split c.if-not-adds_one.ensures
     c.in_ok-tree.ensures c.in_ok-term.ensures (λ env t y ps below q. c.is_sub.ensures env t y ps below q ∙ c.if-is_sub.false) c.in_default.ensures
-    (λ env t y ps below q. c.is_property_term.ensures env t y ps below q ∙ c.if-is_property_term.false) (subst K c.if-takes_item.false c.takes_item.ensures) c.in_ok-more.ensures s) c.set_term.ensures
+    (λ env t y ps below q. c.is_property_term.ensures env t y ps below q ∙ c.if-is_property_term.false) (subst K c.if-takes_item.false c.takes_item.ensures) (sym c.in_default-term_class.ensures) c.in_ok-more.ensures s) c.set_term.ensures
+
+pub give_led-requires-clause-named : goal.give_led-requires-clause-named
+give_led-requires-clause-named c = c.in_ok-term.ensures.named
+
+pub give_led-requires-clause-class : goal.give_led-requires-clause-class
+give_led-requires-clause-class c = sym c.in-Some-term_class.ensures
+
+pub give_led-requires-clause-one : goal.give_led-requires-clause-one
+give_led-requires-clause-one c = c.if-not-adds_one.ensures
+
+pub returns-in-Some-term_class : goal.returns-in-Some-term_class
+returns-in-Some-term_class c =
+    let d = draft_view c.args.draft.now in
+    let f = draft_view c.nodes_tree.new.draft in
+    let g = draft_view c.callee_term.new.draft in
+    let e = draft_view c.give_led.new.draft in
+    IfOk-weaker c.give_led.result _ _
+    (λ k h. sets_class c.args.set_word c.args.env.has_class (env_view c.args.env) (sym c.args.env.has_class_is) c.args.split c.args.nodes.now c.in_ok-tree.tree c.in_ok-term.term c.in-Some-term_class.class d f g e k c.requires.split c.in_ok-tree.ensures
+    c.in_ok-term.ensures (λ env t y ps below q. c.is_sub.ensures env t y ps below q ∙ c.if-is_sub.false) (sym c.in-Some-term_class.ensures) h) c.give_led.ensures

@@ -3,9 +3,7 @@ use Rattle.bound_calls.proofs.TypedNodes.{host_breaks, typed_breaks}
 use Rattle.bound_calls.proofs.references.default_rule.Goals as goal
 
 pub returns-then-is_typed_kind : goal.returns-then-is_typed_kind
-returns-then-is_typed_kind c =
-    typed_breaks c.args.ending c.type_rule.result (sym c.has_default.ensures ∙ c.if-not-has_default.false) (sym c.is_typed_kind.ensures ∙ c.if-is_typed_kind.true) c.type_rule.ensures
+returns-then-is_typed_kind c = typed_breaks c.args.ending c.type_rule.result (sym c.is_typed_kind.ensures ∙ c.if-is_typed_kind.true) c.type_rule.ensures
 
 pub returns-in-HostObject : goal.returns-in-HostObject
-returns-in-HostObject c =
-    host_breaks c.args.ending c.in-HostObject.reference c.object_rule.result (sym c.has_default.ensures ∙ c.if-not-has_default.false) c.in-HostObject.is c.object_rule.ensures
+returns-in-HostObject c = host_breaks c.args.ending c.in-HostObject.reference c.object_rule.result c.in-HostObject.is c.object_rule.ensures

@@ -8,11 +8,11 @@ use Rattle.bound_calls.proofs.references.given_ending.Goals as goal
 
 pub returns-then-refers : goal.returns-then-refers
 returns-then-refers c =
-    IfOk-weaker c.reference_ending.result _ _ (λ v h. given_reference c.args.tree.term c.args.tree.place (draft_view c.args.draft.now) (draft_view c.reference_ending.new.draft) v (sym c.refers.ensures ∙ c.if-refers.true) h) c.reference_ending.ensures
+    IfOk-weaker c.reference_ending.result _ _ (λ v h. given_reference c.args.term c.args.place (draft_view c.args.draft.now) (draft_view c.reference_ending.new.draft) v (sym c.refers.ensures ∙ c.if-refers.true) h) c.reference_ending.ensures
 
 pub returns : goal.returns
 returns c =
     let d = draft_view c.args.draft.now in
     let e = draft_view c.value_ending.new.draft in
-    let P : Option Ending → Type 0 = λ o. TakesValue c.args.tree.term c.args.tree.place d e o in
-    given_value c.args.tree.term c.args.tree.place d e c.in-Some.ending (subst P c.in-Some.is c.in_ok-ending.ensures)
+    let P : Option Ending → Type 0 = λ o. TakesValue c.args.term c.args.place d e o in
+    given_value c.args.term c.args.place d e c.in-Some.ending (subst P c.in-Some.is c.in_ok-ending.ensures)

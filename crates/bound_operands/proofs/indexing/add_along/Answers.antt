@@ -4,4 +4,4 @@ use Rattle.bound_operands.proofs.indexing.add_along.Goals as goal
 
 pub returns : goal.returns
 returns c =
-    adds_along c.args.indexed c.args.tree c.in_ok-count.count (draft_view c.args.draft.now) (draft_view c.push_marked.new.draft) c.requires.along c.in_ok-count.ensures c.in_ok-push_marked.ensures
+    adds_along c.args.indexed c.args.tree c.in_ok-count.count (draft_view c.args.draft.now) (draft_view c.push_leading.new.draft) c.requires.along c.in_ok-count.ensures c.in_ok-push_leading.ensures

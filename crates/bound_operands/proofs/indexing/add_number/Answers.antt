@@ -10,4 +10,4 @@ returns c =
     let d = draft_view c.args.draft.now in
     let e = draft_view c.push_operand.new.draft in
     let A : Option DeclaredType → Type 0 = λ (o : Option DeclaredType). PushesOperand c.args.tree d e o in
-    adds_number c.args.indexed c.args.tree c.in-Some._found c.in_ok-count.count d e c.requires.plain c.in_ok-count.ensures (subst A c.in-Some.is c.in_ok-_found.ensures)
+    adds_number c.args.indexed c.args.tree c.in-Some._found c.in_ok-count.count d e c.requires.plain c.requires.unled c.in_ok-count.ensures (subst A c.in-Some.is c.in_ok-_found.ensures)

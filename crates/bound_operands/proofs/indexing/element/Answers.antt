@@ -15,3 +15,9 @@ returns-in-PlaceAlong c = ends_place_along c.args.indexed c.in-PlaceAlong.is c.r
 
 pub returns-in-ValueAlong : goal.returns-in-ValueAlong
 returns-in-ValueAlong c = ends_value_along c.args.indexed c.in-ValueAlong.is c.requires
+
+pub place_led-requires-clause-led : goal.place_led-requires-clause-led
+place_led-requires-clause-led c = c.in-PlaceLed.is
+
+pub value_led-requires-clause-led : goal.value_led-requires-clause-led
+value_led-requires-clause-led c = c.in-ValueLed.is

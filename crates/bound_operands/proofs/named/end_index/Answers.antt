@@ -20,9 +20,9 @@ returns-then-is_empty c =
     let empty : v.items ≡ [] = nil_from_length v.items (sym v.ok.0 ∙ eqb-true v.len 0 (sym c.if-is_empty.ensures)) in
     let same : old ≡ mid = none_on_top v.items old mid c.in_ok-named.ensures empty in
     on_ok_weaker c.step_index.result
-    (λ g env left right.
+    (λ g env told left right.
     let G : List Item → Type 0 = λ l. Goes env (draft_view c.args.draft.now) l (draft_view c.step_index.new.draft) (reverse c.step_index.new.stack.items) (behind_node (node.Index left right)) in
-    subst G (sym same) (g env left right)) c.step_index.ensures
+    subst G (sym same) (g env told left right)) c.step_index.ensures
 
 pub index_named-requires-clause-named : goal.index_named-requires-clause-named
 index_named-requires-clause-named c =
@@ -33,6 +33,6 @@ index_named-requires-clause-named c =
 pub returns : goal.returns
 returns c =
     on_ok_weaker c.index_named.result
-    (λ g env left right.
+    (λ g env told left right.
     let G : List Item → Type 0 = λ l. Goes env (draft_view c.args.draft.now) l (draft_view c.index_named.new.draft) (reverse c.index_named.new.stack.items) (behind_node (node.Index left right)) in
-    subst G (sym c.in_ok-named.ensures) (g env left right)) c.index_named.ensures
+    subst G (sym c.in_ok-named.ensures) (g env told left right)) c.index_named.ensures

@@ -7,5 +7,5 @@ use Rattle.bound_operands.proofs.named.index_named.Goals as goal
 pub returns : goal.returns
 returns c =
     let xs = reverse c.take_item.new.stack.items in
-    λ env left right. goes_index env c.in-Some-Call.call c.args.named.items c.in_ok-ending.ending left right xs (reverse c.args.stack.now.items) (reverse c.put_item.new.stack.items) (draft_view c.args.draft.now)
+    λ env told left right. goes_index env c.in-Some-Call.call c.args.named.items c.in_ok-ending.ending c.args.declared told left right xs (reverse c.args.stack.now.items) (reverse c.put_item.new.stack.items) (draft_view c.args.draft.now)
     (draft_view c.named_ending.new.draft) c.requires.some (c.in-Some-Call.ensures ∙ ap (λ i. i ∷ xs) c.in-Some-Call.field-0-is) c.in_ok-put_item.ensures c.requires.named c.in_ok-ending.ensures

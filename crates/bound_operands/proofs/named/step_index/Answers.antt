@@ -12,7 +12,7 @@ use Rattle.bound_operands.proofs.ParamArrays.{named_below}
 use Rattle.bound_operands.proofs.named.step_index.Goals as goal
 
 pub returns-then-branch : goal.returns-then-branch
-returns-then-branch c = λ env left right. c.in_ok-index_untaken.ensures.yes c.if-branch.true env left right
+returns-then-branch c = λ env told left right. c.in_ok-index_untaken.ensures.yes c.if-branch.true env told left right
 
 pub returns-then-values-eq0 : goal.returns-then-values-eq0
 returns-then-values-eq0 c =
@@ -21,9 +21,9 @@ returns-then-values-eq0 c =
     let kept : reverse c.index_untaken.new.stack.items ≡ old = (c.in_ok-index_untaken.ensures.no c.if-branch.false).1 in
     let same : old ≡ mid = sym kept ∙ c.in_ok-values.ensures ∙ ap (λ n. with_gathered n mid) c.if-values-eq0.true in
     on_ok_weaker c.end_index.result
-    (λ g env left right.
+    (λ g env told left right.
     let G : List Item → Type 0 = λ l. Goes env (draft_view c.args.draft.now) l (draft_view c.end_index.new.draft) (reverse c.end_index.new.stack.items) (behind_node (node.Index left right)) in
-    subst G (sym same) (g env left right)) c.end_index.ensures
+    subst G (sym same) (g env told left right)) c.end_index.ensures
 
 pub end_index-requires : goal.end_index-requires
 end_index-requires c =
@@ -43,6 +43,6 @@ pub returns : goal.returns
 returns c =
     let kept = (c.in_ok-index_untaken.ensures.no c.if-branch.false).1 in
     on_ok_weaker c.index_gathered.result
-    (λ g env left right.
+    (λ g env told left right.
     let G : List Item → Type 0 = λ l. Goes env (draft_view c.args.draft.now) l (draft_view c.index_gathered.new.draft) (reverse c.index_gathered.new.stack.items) (behind_node (node.Index left right)) in
-    subst G (sym (sym kept ∙ c.in_ok-values.ensures)) (g env left right)) c.index_gathered.ensures
+    subst G (sym (sym kept ∙ c.in_ok-values.ensures)) (g env told left right)) c.index_gathered.ensures

@@ -14,5 +14,5 @@ returns c =
     let d = draft_view c.args.draft.now in
     let e = draft_view c.settle.new.draft in
     let f = draft_view c.value_term.new.draft in
-    λ env. goes_leaf env (reverse c.args.stack.now.items) (reverse c.settle.new.stack.items) (reverse c.put_item.new.stack.items) d e f (record { place = l.token.place; name = None; dotted = None; term = x }) (literal l) (c.in_ok-settle.ensures env)
+    λ env told. goes_leaf env (reverse c.args.stack.now.items) (reverse c.settle.new.stack.items) (reverse c.put_item.new.stack.items) d e f (record { place = l.token.place; name = None; dotted = None; term = x; declared = c.args.declared }) (literal l) told (c.in_ok-settle.ensures env)
     (literal_leaf env e f x (value_view c.in_ok-value.value) (literal_meant l.value) c.value_type-of.result c.value_type-of.ensures c.in_ok-value.ensures (c.in_ok-term.ensures env)) refl refl refl c.in_ok-put_item.ensures

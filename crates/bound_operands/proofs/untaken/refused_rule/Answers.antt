@@ -1,4 +1,5 @@
 use Rattle.std.proofs.Common.{None, if◌then◌else◌, sym, ap, ◌∙◌}
+use Rattle.std.proofs.lemmas.Result.{IfOk-weaker}
 use Rattle.bound_project.specs.DraftView.{draft_view}
 use Rattle.bound_members.specs.bound_calls.specs.bound_forms.specs.ExpressionsBound.{arguments_rule}
 use Rattle.bound_members.specs.bound_calls.specs.Shapes.{shapes_given}
@@ -11,3 +12,8 @@ returns-in-Member c =
     let m = c.in-Member.member in
     c.arguments_rule.ensures t
     ∙ sym (ap (λ r. refused_rule t r (shapes_given c.args.shapes.now)) c.in-Member.is ∙ ap (λ b. if b then None else arguments_rule (member_is t m)) (sym c.in_ok-member_takes-in-Member.ensures ∙ c.if-branch.false))
+
+pub returns-in-Led : goal.returns-in-Led
+returns-in-Led c =
+    let t = (draft_view c.args.draft.now).tables in
+    IfOk-weaker c.led_rule.result _ _ (λ found h. h ∙ sym (ap (λ r. refused_rule t r (shapes_given c.args.shapes.now)) c.in-Led.is)) c.led_rule.ensures

@@ -4,8 +4,8 @@ use Rattle.bound_accesses.specs.bound_names.specs.View.{env_view}
 use Rattle.bound_terms.proofs.Beginnings.{opens, opens_item}
 use Rattle.bound_terms.proofs.indexing.begin_arguments.Goals as goal
 
-pub open_term-requires : goal.open_term-requires
-open_term-requires c = c.in_ok-term.ensures.named
+pub open_term-requires-clause-named : goal.open_term-requires-clause-named
+open_term-requires-clause-named c = c.in_ok-term.ensures.named
 
 pub returns : goal.returns
 returns c =

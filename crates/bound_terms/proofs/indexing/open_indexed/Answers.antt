@@ -9,6 +9,8 @@ use Rattle.bound_accesses.specs.bound_names.specs.bound_members.specs.bound_call
 use Rattle.bound_accesses.specs.bound_names.specs.bound_members.specs.bound_calls.specs.Indexing.{OpensTerm}
 use Rattle.bound_accesses.specs.bound_names.specs.View.{env_view}
 use Rattle.bound_terms.proofs.Refused.{place_untaken}
+use Rattle.std.proofs.lemmas.Result.{IfOk-weaker}
+use Rattle.bound_accesses.specs.bound_names.proofs.Declaring.{env_declares}
 use Rattle.bound_terms.proofs.indexing.open_indexed.Goals as goal
 
 pub returns-then-branch : goal.returns-then-branch
@@ -24,3 +26,9 @@ returns-then-branch c =
 
 pub returns : goal.returns
 returns c = λ bounded. c.in_ok-indexed.ensures (env_view c.args.env) (sym c.args.env.has_class_is) bounded
+
+pub open_led_place-requires-clause-class : goal.open_led_place-requires-clause-class
+open_led_place-requires-clause-class c = sym c.in-Some.ensures
+
+pub returns-in-Some : goal.returns-in-Some
+returns-in-Some c = IfOk-weaker c.open_led_place.result _ _ (λ i o bounded. o (env_view c.args.env) (env_declares c.args.env c.requires.env) bounded) c.open_led_place.ensures

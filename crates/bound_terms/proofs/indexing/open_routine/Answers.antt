@@ -22,3 +22,6 @@ returns-then-is_empty c = IfOk-weaker c.open_received.result _ _ (λ i o. o (env
 
 pub returns-then-not-indexes_value : goal.returns-then-not-indexes_value
 returns-then-not-indexes_value c = IfOk-weaker c.open_procedure.result _ _ (λ i o. o (env_view c.args.env)) c.open_procedure.ensures
+
+pub open_led_property-requires-clause-indexes : goal.open_led_property-requires-clause-indexes
+open_led_property-requires-clause-indexes c = (let A : Bool → Type 0 = λ (b : Bool). MatchBool b (IndexesValue c.args.routine) (NotIndexed c.args.routine) in subst A c.if-not-indexes_value.false c.indexes_value.ensures)

@@ -5,6 +5,8 @@ use Rattle.bound_accesses.specs.bound_names.specs.bound_members.specs.bound_call
 use Rattle.bound_accesses.specs.bound_names.specs.bound_members.specs.bound_calls.specs.declared.term.Term.TheVariants as term
 use Rattle.bound_accesses.specs.bound_names.specs.bound_members.specs.bound_calls.specs.Indexing.{OpensTerm}
 use Rattle.bound_terms.proofs.Refused.{value_untaken}
+use Rattle.std.proofs.lemmas.Result.{IfOk-weaker}
+use Rattle.bound_accesses.specs.bound_names.proofs.Declaring.{env_declares}
 use Rattle.bound_terms.proofs.indexing.open_whole.Goals as goal
 
 pub returns-then-branch : goal.returns-then-branch
@@ -16,3 +18,9 @@ returns-then-branch c =
 
 pub returns : goal.returns
 returns c = c.in_ok-indexed.ensures (env_view c.args.env) (sym c.args.env.has_class_is)
+
+pub open_led_value-requires-clause-class : goal.open_led_value-requires-clause-class
+open_led_value-requires-clause-class c = sym c.in-Some.ensures
+
+pub returns-in-Some : goal.returns-in-Some
+returns-in-Some c = IfOk-weaker c.open_led_value.result _ _ (λ i o. o (env_view c.args.env) (env_declares c.args.env c.requires.env)) c.open_led_value.ensures

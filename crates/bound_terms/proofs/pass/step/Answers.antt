@@ -6,6 +6,7 @@ use Rattle.vba_expression.specs.Nodes.{behind_node}
 use Rattle.bound_project.specs.DraftView.{draft_view}
 use Rattle.bound_accesses.specs.bound_names.specs.bound_members.specs.bound_calls.specs.Steps.{Goes}
 use Rattle.bound_accesses.specs.bound_names.specs.View.{env_view}
+use Rattle.bound_accesses.specs.bound_names.proofs.Declaring.{env_declares}
 use Rattle.bound_terms.proofs.pass.step.Goals as goal
 
 pub returns-in-Literal : goal.returns-in-Literal
@@ -14,7 +15,7 @@ returns-in-Literal c =
     let d = draft_view c.args.draft.now in
     let xs = reverse c.args.stack.now.items in
     let A : ExpressionNode → Type 0 = λ k. Goes env d xs (draft_view c.step_literal.new.draft) (reverse c.step_literal.new.stack.items) (behind_node k) in
-    on_ok_weaker c.step_literal.result (λ g. subst A (sym c.in-Literal.is) (g env)) c.step_literal.ensures
+    on_ok_weaker c.step_literal.result (λ g. subst A (sym c.in-Literal.is) (g env (env_declares c.args.env c.requires.env))) c.step_literal.ensures
 
 pub returns-in-Name : goal.returns-in-Name
 returns-in-Name c =
@@ -102,7 +103,7 @@ returns-in-Index c =
     let d = draft_view c.args.draft.now in
     let xs = reverse c.args.stack.now.items in
     let A : ExpressionNode → Type 0 = λ k. Goes env d xs (draft_view c.step_index.new.draft) (reverse c.step_index.new.stack.items) (behind_node k) in
-    on_ok_weaker c.step_index.result (λ g. subst A (sym c.in-Index.is) (g env c.in-Index.left c.in-Index.right)) c.step_index.ensures
+    on_ok_weaker c.step_index.result (λ g. subst A (sym c.in-Index.is) (g env (env_declares c.args.env c.requires.env) c.in-Index.left c.in-Index.right)) c.step_index.ensures
 
 pub returns-in-TypeOf : goal.returns-in-TypeOf
 returns-in-TypeOf c =

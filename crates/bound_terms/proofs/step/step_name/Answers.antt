@@ -9,6 +9,7 @@ use Rattle.bound_accesses.specs.bound_names.specs.bound_members.specs.bound_call
 use Rattle.bound_accesses.specs.bound_names.specs.bound_members.specs.bound_calls.specs.bound_declarations.specs.constant_values.proofs.Looked.{declared_there}
 use Rattle.bound_accesses.specs.bound_names.specs.bound_members.specs.bound_calls.specs.Steps.{MakesLeaf}
 use Rattle.bound_accesses.specs.bound_names.specs.View.{env_view}
+use Rattle.bound_accesses.specs.bound_names.proofs.Declaring.{env_declares}
 use Rattle.bound_accesses.specs.bound_names.specs.bound_members.specs.bound_calls.proofs.Steps.{goes_leaf}
 use Rattle.bound_terms.proofs.step.step_name.Goals as goal
 
@@ -26,5 +27,5 @@ returns c =
     let e = draft_view c.settle.new.draft in
     let f = draft_view c.meant_term.new.draft in
     let A : Option Meant → Type 0 = λ m. MakesLeaf env e f c.in_ok-term.term (meant_term env x m) in
-    goes_leaf env (reverse c.args.stack.now.items) (reverse c.settle.new.stack.items) (reverse c.put_item.new.stack.items) d e f (record { place = x.token.place; name = Some c.args.name; dotted = None; term = c.in_ok-term.term }) (name x)
-    (c.in_ok-settle.ensures env) (subst A c.declares-meant.ensures c.in_ok-term.ensures) refl refl tt c.in_ok-put_item.ensures
+    goes_leaf env (reverse c.args.stack.now.items) (reverse c.settle.new.stack.items) (reverse c.put_item.new.stack.items) d e f (record { place = x.token.place; name = Some c.args.name; dotted = None; term = c.in_ok-term.term; declared = c.args.env.declared }) (name x)
+    (env_declares c.args.env c.requires.env) (c.in_ok-settle.ensures env) (subst A c.declares-meant.ensures c.in_ok-term.ensures) refl refl tt c.in_ok-put_item.ensures

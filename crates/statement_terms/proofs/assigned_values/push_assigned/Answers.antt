@@ -21,4 +21,5 @@ returns c =
     let d = draft_view c.args.draft.now in
     let e = draft_view c.push_operand.new.draft in
     let A : Option DeclaredType → Type 0 = λ o. PushesOperand c.args.tree d e o in
-    operand_pushed c.args.has_class c.args.given c.args.tree c.in-Some.of d e c.if-given.false (subst A c.in-Some.is c.in_ok-of.ensures)
+    let M : Option Bool → Type 0 = λ (m : Option Bool). PushesFor c.args.has_class m c.args.given c.args.tree d e c.in-Some.of in
+    subst M (sym c.operand_may.ensures) (operand_pushed c.args.has_class c.args.given c.args.tree c.in-Some.of d e c.if-given.false (subst A c.in-Some.is c.in_ok-of.ensures))

@@ -1,4 +1,5 @@
+use Rattle.std.proofs.lemmas.Result.{IfOk-weaker}
 use Rattle.statement_terms.proofs.targets.assign_constant.Goals as goal
 
-pub assign_wrong-requires-clause-wrong : goal.assign_wrong-requires-clause-wrong
-assign_wrong-requires-clause-wrong c = c.if-not-is_wrong.ensures c.args.place
+pub returns : goal.returns
+returns c = IfOk-weaker c.assign_wrong.result _ _ (λ k h all has may. h all has may (c.if-not-is_wrong.ensures all c.args.place)) c.assign_wrong.ensures

@@ -17,5 +17,5 @@ push_node-requires-2 c =
 pub returns : goal.returns
 returns c =
     let f = draft_view c.push_node.new.draft in
-    unwritten_assigned c.args.place c.args.at c.args.makes c.args.rule (draft_view c.args.draft.now) (draft_view c.push_node.new.draft) (draft_view c.push_node-2.new.draft) (draft_view c.push_broken.new.draft) c.requires.object c.requires.broken c.in_ok-push_node.ensures
+    unwritten_assigned c.args.place c.args.at c.args.makes c.args.rule (draft_view c.args.draft.now) (draft_view c.push_node.new.draft) (draft_view c.push_node-2.new.draft) (draft_view c.push_broken.new.draft) c.requires.object c.in_ok-push_node.ensures
     (c.in_ok-push_node-2.ensures ∙ ap (λ k. record f { pieces = put f.tables (node_of k c.args.place c.args.at.of) f.pieces }) c.read_kind.ensures) c.in_ok-push_broken.ensures
