@@ -1,4 +1,4 @@
-//! Declarations of types that run: no types that the profile hasn't, no events, and no arrays declared As New.
+//! Declarations of types that run: no types that the profile hasn't, and no public arrays of a class declared As New.
 
 ghost use Rattle.std.specs.Prelude.{◌≡◌, IfOk, option_map};
 ghost use Rattle.std.specs.List.{list_all};
@@ -65,13 +65,14 @@ fn is_built_clause(
     }
 }
 
+/// Does the type of a variable run, where that is an array that objects show, or isn't?
 fn is_built_new(
     scope: Scope,
-    is_array: bool,
+    is_open_array: bool,
     suffix: Option<TypeSuffix>,
     clause: &Option<NewTypeClause>,
 ) -> Result<bool, NoMemory>
-    ensures { IfOk result (λ built. built ≡ plain.is_built_new (scope_view scope.entry) is_array suffix (option_map new_type_clause_view clause.now)) }
+    ensures { IfOk result (λ built. built ≡ plain.is_built_new (scope_view scope.entry) is_open_array suffix (option_map new_type_clause_view clause.now)) }
 {
     if !is_built_suffix(suffix) {
         return Ok(false);
@@ -79,7 +80,7 @@ fn is_built_new(
     match clause {
         None => Ok(true),
         Some(clause) => {
-            if is_array && clause.new_word.is_some() {
+            if is_open_array && clause.new_word.is_some() {
                 return Ok(false);
             }
             is_built_written(scope, &clause.declared_type)
@@ -100,28 +101,32 @@ pub(crate) fn is_built_result(
     }
 }
 
-/// Does a variable run?
-fn is_built_variable(scope: Scope, variable: &Variable) -> Result<bool, NoMemory>
-    ensures { IfOk result (λ built. built ≡ plain.is_built_variable (scope_view scope.entry) (variable_view variable.now)) }
+/// Does a variable run, which objects show or not?
+fn is_built_variable(scope: Scope, is_open: bool, variable: &Variable) -> Result<bool, NoMemory>
+    ensures { IfOk result (λ built. built ≡ plain.is_built_variable (scope_view scope.entry) is_open (variable_view variable.now)) }
 {
     is_built_new(
         scope,
-        variable.dims.is_some(),
+        is_open && variable.dims.is_some(),
         variable.name.suffix,
         &variable.type_clause,
     )
 }
 
-/// Do variables run?
-pub(crate) fn are_built_variables(scope: Scope, list: &Listed<Variable>) -> Result<bool, NoMemory>
-    ensures { IfOk result (λ built. built ≡ list_all (plain.is_built_variable (scope_view scope.entry)) (all_of (listed_view variable_view list.now))) }
+/// Do variables run, which objects show or not?
+pub(crate) fn are_built_variables(
+    scope: Scope,
+    is_open: bool,
+    list: &Listed<Variable>,
+) -> Result<bool, NoMemory>
+    ensures { IfOk result (λ built. built ≡ list_all (plain.is_built_variable (scope_view scope.entry) is_open) (all_of (listed_view variable_view list.now))) }
 {
-    if !is_built_variable(scope, &list.first)? {
+    if !is_built_variable(scope, is_open, &list.first)? {
         return Ok(false);
     }
     let mut left = list.others.as_slice();
     'variables: while let [next, behind @ ..] = left {
-        if !is_built_variable(scope, &next.item)? {
+        if !is_built_variable(scope, is_open, &next.item)? {
             return Ok(false);
         }
         left = behind;

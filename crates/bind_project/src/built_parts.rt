@@ -12,7 +12,9 @@ ghost use Rattle.vba_tree.specs.View.{parameters_view, result_type_view, stateme
 use crate::built_declarations::{
     are_built_parameters, are_built_variables, is_built_result, is_built_suffix, is_built_written,
 };
-use bound_names::bound_members::bound_calls::bound_declarations::constant_values::declared_names::Scope;
+use bound_names::bound_members::bound_calls::bound_declarations::constant_values::declared_names::{
+    Scope, is_public_word,
+};
 use module_parts::Part;
 use vba_base::NoMemory;
 use vba_tree::{LineTree, ProcedureHeader, SimpleStatement, Statement};
@@ -56,7 +58,8 @@ fn is_built_statement(scope: Scope, statement: &Statement) -> Result<bool, NoMem
 {
     match statement {
         Statement::Simple(SimpleStatement::Variables(variables)) => {
-            are_built_variables(scope, &variables.variables)
+            let is_open = scope.here.source.is_class && is_public_word(variables.word);
+            are_built_variables(scope, is_open, &variables.variables)
         }
         _ => Ok(true),
     }

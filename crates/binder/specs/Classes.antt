@@ -62,17 +62,22 @@ made_in (type.class number) = Some number
 made_in type.collection = Some 0
 made_in other = None
 
--- the class of which an object is made for a variable of a type, by its clause
+-- what an array has elements of, or else a type itself
+abbrev pub element_in : Declared → Declared
+element_in (type.array_of of) = of
+element_in of = of
+
+-- the class of which an object is made for a variable of a type, or for each element of an array, by its clause
 abbrev pub made_by : Option NewTypeClause → Declared → Option ℕ
 made_by None of = None
-made_by (Some c) of = if is_some c.new_word then made_in of else None
+made_by (Some c) of = if is_some c.new_word then made_in (element_in of) else None
 
 abbrev pub made_class : Scope → Variable → Option ℕ
 made_class s v = made_by v.type_clause (declared_variable s v).of
 
--- a variable of this type may have an object
+-- a variable of this type may have an object, or an element of it may
 abbrev pub can_hold_object : Declared → Bool
-can_hold_object of = is_object of || is_variant of
+can_hold_object of = is_object (element_in of) || is_variant (element_in of)
 
 -- whether a project declares a variable As New
 abbrev pub is_new_clause : Option NewTypeClause → Bool

@@ -13,7 +13,9 @@ use Rattle.binder.specs.Declarations.{What, a_variable, a_constant, an_enum, a_m
 use Rattle.binder.specs.Scopes.{Space, Scope, Qualifier, module_qualifier, enum_qualifier, library_qualifier, of_module, plainly, before_dot, counts, declares, behind, as_qualifier, first_at, is_named, qualifier_of, seen_from, enum_behind}
 use Rattle.bound_names.specs.bound_members.specs.bound_calls.specs.bound_forms.specs.Terms.{Env}
 use Rattle.bound_names.specs.bound_members.specs.bound_calls.specs.bound_forms.specs.Terms as plain
-use Rattle.bound_names.specs.bound_members.specs.bound_calls.specs.bound_forms.specs.ExpressionsBound.{term_of, meant_term, member_of, behind_term, from_zero, place_told}
+use Rattle.bound_names.specs.bound_members.specs.bound_calls.specs.bound_forms.specs.Operands.{place_told}
+use Rattle.bound_names.specs.bound_members.specs.bound_calls.specs.bound_forms.specs.Members.{member_of}
+use Rattle.bound_names.specs.bound_members.specs.bound_calls.specs.bound_forms.specs.ExpressionsBound.{term_of, meant_term, behind_term, from_zero}
 use Rattle.bound_names.specs.bound_members.specs.bound_calls.specs.declared.term.Dotted.{Dotted}
 use Rattle.bound_names.specs.bound_members.specs.bound_calls.specs.declared.term.Term.{Term}
 use Rattle.bound_names.specs.bound_members.specs.bound_calls.specs.declared.term.Tree.{Tree}

@@ -1,6 +1,6 @@
 -- Fields of places and values, and names behind dots that begin an expression.
 use Rattle.std.specs.Prelude.{◌==◌}
-use Rattle.std.proofs.Common.{◌≡◌, ℕ, Bor, Bool, true, false, List, [], ◌∷◌, ◌++◌, map, Option, Some, None, is_some, if◌then◌else◌, refl, sym, ap, subst, ◌∙◌, ◌&&◌, not}
+use Rattle.std.proofs.Common.{◌≡◌, ℕ, Bor, Bool, length, true, false, List, [], ◌∷◌, ◌++◌, map, Option, Some, None, is_some, if◌then◌else◌, refl, sym, ap, subst, ◌∙◌, ◌&&◌, not}
 use Rattle.vba_base.specs.declared.place.Place.{Place}
 use Rattle.vba_lexer.specs.declared.token.Token.{Token}
 use Rattle.vba_words.specs.declared.identifier.Identifier.{Identifier}
@@ -30,34 +30,35 @@ use Rattle.binder.specs.Projects.{declarations_of}
 use Rattle.binder.specs.Constants.{home}
 use Rattle.binder.specs.Scopes.{Space, Qualifier, qualifier_of, enum_behind}
 use Rattle.binder.specs.Storage.{types_from, types_of_space, user_types, has_bounds}
-use Rattle.bound_names.specs.bound_members.specs.bound_calls.specs.bound_forms.specs.Terms.{Env, Within, a_place as a_place_term, a_value, no_term, expression_of, member_read, read_of, routine_term}
+use Rattle.bound_names.specs.bound_members.specs.bound_calls.specs.bound_forms.specs.Terms.{Env, Within, a_place as a_place_term, a_value, expression_of, read_of, routine_term}
 use Rattle.bound_names.specs.bound_members.specs.bound_calls.specs.bound_forms.specs.Terms as terms
 use Rattle.bound_names.specs.bound_members.specs.bound_calls.specs.bound_forms.specs.ClassDefaults.{declared_in}
-use Rattle.bound_names.specs.bound_members.specs.bound_calls.specs.bound_forms.specs.ExpressionsBound.{bare_call, behind_term, err_member, field_named, field_of_place, field_of_value, kept_member, member_of, node_or, object_member, sheets_value, unknown_member, term_of, with_field, given_as, typed_term, place_told, class_member, host_behind, is_instance_type, is_of_class, new_term}
+use Rattle.bound_names.specs.bound_members.specs.bound_calls.specs.bound_forms.specs.Operands.{alone, given_as, place_told, is_instance_type, is_of_class}
+use Rattle.bound_names.specs.bound_members.specs.bound_calls.specs.bound_forms.specs.Members.{behind_alone, err_member, field_named, field_of_place, field_of_value, kept_member, member_of, object_member, sheets_value, unknown_member, with_field, class_member, host_behind}
+use Rattle.bound_names.specs.bound_members.specs.bound_calls.specs.bound_forms.specs.ExpressionsBound.{behind_term, term_of, typed_term, new_term}
 use Rattle.binder.specs.Types.{meant_type, type_meant}
 use Rattle.bound_names.specs.bound_members.specs.bound_calls.specs.bound_declarations.specs.constant_values.specs.declared_names.specs.Outside.{the_outside}
-use Rattle.bound_names.specs.bound_members.specs.bound_calls.specs.bound_declarations.specs.constant_values.specs.declared_names.specs.View.{scope_view}
+use Rattle.bound_names.specs.bound_members.specs.bound_calls.specs.bound_declarations.specs.constant_values.specs.declared_names.specs.View.{scope_view, space_view, written_view}
 use Rattle.bound_names.specs.bound_members.specs.bound_calls.specs.bound_declarations.specs.constant_values.specs.declared_names.specs.declared.scope.Scope.{Scope as ScopeHere}
 use Rattle.bound_names.specs.project_tables.specs.Signed.{whole_scope}
 use Rattle.bound_accesses.specs.declared.fields.Field.{Field}
 use Rattle.bound_names.specs.bound_members.specs.bound_calls.specs.declared.term.Ending.{Ending}
 use Rattle.bound_names.specs.bound_members.specs.bound_calls.specs.declared.term.HostMember.{HostMember}
-use Rattle.bound_names.specs.bound_members.specs.bound_calls.specs.declared.term.Routine.{Routine}
 use Rattle.bound_names.specs.bound_members.specs.bound_calls.specs.declared.term.Term.{Term}
 use Rattle.bound_names.specs.bound_members.specs.bound_calls.specs.declared.term.Term.TheVariants as term
 use Rattle.bound_names.specs.bound_members.specs.bound_calls.specs.declared.term.Tree.{Tree}
 use Rattle.bound_names.specs.bound_members.specs.bound_calls.specs.declared.term.Item.{Item}
 use Rattle.bound_names.specs.bound_members.specs.bound_calls.specs.declared.term.Item.TheVariants as items
 use Rattle.bound_names.specs.bound_members.specs.bound_calls.specs.Calls.{node_of}
-use Rattle.bound_accesses.specs.Fields.{FieldFound, FieldIs, FieldOrNone, KeepsField, LacksField, MakesBehind, MakesField, MakesFieldValue, PlacesField, ValueOrNone, place_found, user_type_in, value_found}
+use Rattle.bound_accesses.specs.Fields.{FieldFound, FieldIs, FieldOrNone, KeepsField, LacksField, MakesBehind, MakesBehindTerm, MakesField, MakesFieldValue, PlacesField, ValueOrNone, place_found, user_type_in, value_found}
 use Rattle.bound_accesses.specs.Items.{FindsBehindPlace, FindsBehindValue, found_term, is_before_dot, may_be_class}
 use Rattle.bound_names.specs.ClassMembers.{MakesMemberOf, unknown_term}
 use Rattle.bound_accesses.specs.Qualified.{IsQualifier, MakesMember, names_sheets}
-use Rattle.bound_names.specs.bound_members.specs.bound_calls.specs.Standing.{TermStands, TreeStands, Stands, Base, ValueEnds, member_is}
+use Rattle.bound_names.specs.bound_members.specs.bound_calls.specs.Standing.{TermStands, TreeStands, Stands, Base, ValueEnds}
 use Rattle.bound_names.specs.bound_members.specs.bound_calls.specs.Steps.{Goes, MakesLeaf}
-use Rattle.bound_names.specs.bound_members.specs.bound_calls.specs.Taking.{CallsRoutine, PushesSheet, ReadsMember, read_kind}
+use Rattle.bound_names.specs.bound_members.specs.bound_calls.specs.Taking.{StandsAlone, read_kind}
 use Rattle.bound_names.specs.bound_members.specs.bound_calls.proofs.Growing.{grown_same, grown_twice, grown_pieces, all_named, stands_grows}
-use Rattle.bound_names.specs.bound_members.specs.bound_calls.proofs.Taking.{sheet_stands, read_ends}
+use Rattle.bound_names.specs.bound_members.specs.bound_calls.proofs.Taking.{read_ends}
 use Rattle.bound_accesses.proofs.Dotted.{looked, made_tree}
 use Rattle.bound_names.proofs.UnknownTerms.{unknown_stands}
 use Rattle.bound_accesses.proofs.ItemTerms.{hosted, one_more, place_read, read_stands}
@@ -85,19 +86,19 @@ user_type_is of number h = let e : None ≡ Some number = h in absurd cc
 -- ---- a field that was found
 
 field_term : (env : Env) (place dot : Place) (at : Lvalue) (number : ℕ) (lends makes : Bool) (f : Identifier) (x : Field) → FieldFound (field_named env number f) x
-    → field_of_place env place dot at (type.udt number) lends makes f ≡ a_place_term (field at x.number (declared_view x.of) x.is_bounded) (declared_view x.of) x.is_bounded lends false
+    → field_of_place env place dot at (type.udt number) lends makes f ≡ a_place_term (field at x.number (declared_view x.of) (not (x.bounds == 0))) (declared_view x.of) x.bounds lends false
 field_term env place dot at number lends makes f x k =
-    let F : ℕ → Declaration → terms.Term = λ (i : ℕ) (d : Declaration). a_place_term (field at i d.of (has_bounds d)) d.of (has_bounds d) lends false in
+    let F : ℕ → Declaration → terms.Term = λ (i : ℕ) (d : Declaration). a_place_term (field at i d.of (has_bounds d)) d.of (length d.bounds) lends false in
     ap (λ (o : Option (ℕ × Declaration)). with_field o F dot (expression_of (read_of makes at) place (type.udt number))) k.is
-    ∙ ap (λ (u : Declared). a_place_term (field at x.number u (has_bounds k.declaration)) u (has_bounds k.declaration) lends false) k.of_is
-    ∙ ap (λ (b : Bool). a_place_term (field at x.number (declared_view x.of) b) (declared_view x.of) b lends false) k.bounded_is
+    ∙ ap (λ (u : Declared). a_place_term (field at x.number u (has_bounds k.declaration)) u (length k.declaration.bounds) lends false) k.of_is
+    ∙ ap (λ (n : ℕ). a_place_term (field at x.number (declared_view x.of) (not (n == 0))) (declared_view x.of) n lends false) k.bounds_are
 
 pub makes_field : (env : Env) (of : DeclaredType) (number : ℕ) (lends : Bool) (f : Identifier) (x : Field) → user_type_in of ≡ Some number → FieldFound (field_named env number f) x
-    → MakesField env of lends f (term.Place (kinds.Field x.number x.of x.is_bounded) x.of x.is_bounded lends false)
+    → MakesField env of lends f (term.Place (kinds.Field x.number x.of (not (x.bounds == 0))) x.of x.bounds lends false)
 makes_field env of number lends f x is k = record {
   named = λ t. tt;
   stands = λ t place dot at makes below. record {
-    at = field at x.number (declared_view x.of) x.is_bounded;
+    at = field at x.number (declared_view x.of) (not (x.bounds == 0));
     is = ap (λ (u : Declared). field_of_place env place dot at u lends makes f) (user_type_is of number is) ∙ field_term env place dot at number lends makes f x k;
     ends = λ n. refl;
   };
@@ -128,7 +129,7 @@ pub lacks_field : (env : Env) (of : DeclaredType) (number : ℕ) (f : Identifier
 lacks_field env of number f is none = record {
   place = λ place dot at lends makes.
       let A : Declared → Type 0 = λ (u : Declared). field_of_place env place dot at u lends makes f ≡ unknown_member dot (expression_of (read_of makes at) place u) in
-      let F : ℕ → Declaration → terms.Term = λ (i : ℕ) (d : Declaration). a_place_term (field at i d.of (has_bounds d)) d.of (has_bounds d) lends false in
+      let F : ℕ → Declaration → terms.Term = λ (i : ℕ) (d : Declaration). a_place_term (field at i d.of (has_bounds d)) d.of (length d.bounds) lends false in
       subst A (sym (user_type_is of number is)) (ap (λ (o : Option (ℕ × Declaration)). with_field o F dot (expression_of (read_of makes at) place (type.udt number))) none);
   value = λ place dot made.
       let A : Declared → Type 0 = λ (u : Declared). field_of_value env place dot made u f ≡ unknown_member dot (expression_of made place u) in
@@ -256,12 +257,12 @@ goes_kept env xs ys after d e g t known dot f told s k eq =
 
 -- ---- behind a term
 
-pub behind_place : (env : Env) (place dot : Place) (at : Ending) (bounded lends makes : Bool) (f : Identifier) (d e : Drafted) (y : Term) → PlacesField env place dot at lends makes f d e y
-    → MakesBehind env place dot (term.Place at.kind at.of bounded lends makes) f d e y
-behind_place env place dot at bounded lends makes f d e y p = record {
+pub behind_place : (env : Env) (place dot : Place) (at : Ending) (bounds : ℕ) (lends makes : Bool) (f : Identifier) (d e : Drafted) (y : Term) → PlacesField env place dot at lends makes f d e y
+    → MakesBehind env place dot (term.Place at.kind at.of bounds lends makes) f d e y
+behind_place env place dot at bounds lends makes f d e y p = record {
   grown = p.grown;
   named = p.named;
-  stands = λ z below k. (let A : terms.Term → Type 0 = λ (w : terms.Term). TermStands env e.tables y (member_of env place dot w f) e.pieces below in subst A (sym k.is) (p.stands k.at below k.ends));
+  stands = λ z below k. (let A : terms.Term → Type 0 = λ (w : terms.Term). TermStands env e.tables y (behind_alone env place dot w f) e.pieces below in subst A (sym k.is) (p.stands k.at below k.ends));
   there = λ z below k. ap (λ (w : terms.Term). may_be_class w) k.is;
 }
 
@@ -279,7 +280,7 @@ behind_value env place dot ending f d e y typed m eq =
       grown = grown_pieces d (put d.tables (node_of ending.kind place ending.of) d.pieces);
       named = m.named d.tables;
       stands = λ z below k.
-          let A : terms.Term → Type 0 = λ (w : terms.Term). TermStands env d.tables y (member_of env place dot w f) (put d.tables (node_of ending.kind place ending.of) d.pieces) below in
+          let A : terms.Term → Type 0 = λ (w : terms.Term). TermStands env d.tables y (behind_alone env place dot w f) (put d.tables (node_of ending.kind place ending.of) d.pieces) below in
           let B : List Piece → Type 0 = λ (ps : List Piece). TermStands env d.tables y (field_of_value env place dot k.made (declared_view ending.of) f) ps below in
           subst A (sym k.is) (subst B (sym (k.ends (node_of ending.kind place ending.of))) (m.stands d.tables place dot k.made below));
       there = λ z below k. ap (λ (w : terms.Term). may_be_class w) k.is ∙ type_is_none k.made ending.of typed;
@@ -294,20 +295,20 @@ behind_no_value env place dot ending f d e typed l eq =
       grown = grown_pieces d e1.pieces;
       named = tt;
       stands = λ z below k.
-          unknown_stands env d.tables dot (expression_of k.made place (declared_view ending.of)) (member_of env place dot z f) e1.pieces below
-          (ap (λ (w : terms.Term). member_of env place dot w f) k.is ∙ l.value place dot k.made) (k.ends (node_of ending.kind place ending.of));
+          unknown_stands env d.tables dot (expression_of k.made place (declared_view ending.of)) (behind_alone env place dot z f) e1.pieces below
+          (ap (λ (w : terms.Term). behind_alone env place dot w f) k.is ∙ l.value place dot k.made) (k.ends (node_of ending.kind place ending.of));
       there = λ z below k. ap (λ (w : terms.Term). may_be_class w) k.is ∙ type_is_none k.made ending.of typed;
     })
 
 -- an object at a place, and one that a value gives
-pub behind_object_place : (env : Env) (place dot : Place) (at : Ending) (bounded lends makes : Bool) (f : Identifier) (d e : Drafted) (found : Option HostMember) → user_type_in at.of ≡ None → class_in (declared_view at.of) ≡ None
-    → FindsBehindPlace env place at makes f.name d e found → MakesBehind env place dot (term.Place at.kind at.of bounded lends makes) f d e (found_term found dot)
-behind_object_place env place dot at bounded lends makes f d e found none class h = record {
+pub behind_object_place : (env : Env) (place dot : Place) (at : Ending) (bounds : ℕ) (lends makes : Bool) (f : Identifier) (d e : Drafted) (found : Option HostMember) → user_type_in at.of ≡ None → class_in (declared_view at.of) ≡ None
+    → FindsBehindPlace env place at makes f.name d e found → MakesBehind env place dot (term.Place at.kind at.of bounds lends makes) f d e (found_term found dot)
+behind_object_place env place dot at bounds lends makes f d e found none class h = record {
   grown = h.grown;
   named = h.named dot;
   stands = λ z below k.
       let A : terms.Term → Type 0 = λ (w : terms.Term). TermStands env e.tables (found_term found dot) w e.pieces below in
-      subst A (sym (ap (λ (w : terms.Term). member_of env place dot w f) k.is ∙ no_type_place env place dot k.at at.of lends makes f none class)) (h.stands dot k.at below k.ends);
+      subst A (sym (ap (λ (w : terms.Term). behind_alone env place dot w f) k.is ∙ no_type_place env place dot k.at at.of lends makes f none class)) (h.stands dot k.at below k.ends);
   there = λ z below k. ap (λ (w : terms.Term). may_be_class w) k.is;
 }
 
@@ -318,7 +319,7 @@ behind_object_value env place dot v f d e found none class before h = record {
   named = h.named dot;
   stands = λ z below k.
       let A : terms.Term → Type 0 = λ (w : terms.Term). TermStands env e.tables (found_term found dot) w e.pieces below in
-      subst A (sym (ap (λ (w : terms.Term). member_of env place dot w f) k.is ∙ no_type_value env place dot k.made v.of f none class)) (h.stands dot k.made below k.ends);
+      subst A (sym (ap (λ (w : terms.Term). behind_alone env place dot w f) k.is ∙ no_type_value env place dot k.made v.of f none class)) (h.stands dot k.made below k.ends);
   there = λ z below k. ap (λ (w : terms.Term). may_be_class w) k.is ∙ no_class_made d.tables any_node v.kind k.made d.pieces below before (k.ends any_node) (declared_view v.of);
 }
 
@@ -328,22 +329,22 @@ pub class_is : (of : Declared) (class : ℕ) → class_in of ≡ Some class → 
 class_is (type.class n) class h = let e : n ≡ class = cc in ap (λ (k : ℕ). type.class k) e
 class_is of class h = let e : None ≡ Some class = h in absurd cc
 
-pub behind_class_place : (env : Env) (place dot : Place) (at : Ending) (bounded lends makes : Bool) (class : ℕ) (f : Identifier) (d b c e : Drafted) (read : NodeKind) (y : Term) → class_in (declared_view at.of) ≡ Some class
+pub behind_class_place : (env : Env) (place dot : Place) (at : Ending) (bounds : ℕ) (lends makes : Bool) (class : ℕ) (f : Identifier) (d b c e : Drafted) (read : NodeKind) (y : Term) → class_in (declared_view at.of) ≡ Some class
     → b ≡ record d { pieces = put d.tables (node_of at.kind place at.of) d.pieces } → read ≡ read_kind makes → c ≡ record b { pieces = put b.tables (node_of read place at.of) b.pieces } → MakesMemberOf env dot class f c e y
-    → MakesBehind env place dot (term.Place at.kind at.of bounded lends makes) f d e y
-behind_class_place env place dot at bounded lends makes class f d b c e read y is one reads two m =
+    → MakesBehind env place dot (term.Place at.kind at.of bounds lends makes) f d e y
+behind_class_place env place dot at bounds lends makes class f d b c e read y is one reads two m =
     let b1 : Drafted = record d { pieces = put d.tables (node_of at.kind place at.of) d.pieces } in
     let c1 : Drafted = record b1 { pieces = put b1.tables (node_of (read_kind makes) place at.of) b1.pieces } in
     let all : c ≡ c1 = two ∙ ap (λ (k : NodeKind). record b { pieces = put b.tables (node_of k place at.of) b.pieces }) reads ∙ ap (λ (z : Drafted). record z { pieces = put z.tables (node_of (read_kind makes) place at.of) z.pieces }) one in
-    let P : Drafted → Type 0 = λ (z : Drafted). MakesMemberOf env dot class f z e y → MakesBehind env place dot (term.Place at.kind at.of bounded lends makes) f d e y in
+    let P : Drafted → Type 0 = λ (z : Drafted). MakesMemberOf env dot class f z e y → MakesBehind env place dot (term.Place at.kind at.of bounds lends makes) f d e y in
     subst P (sym all) (λ g. record {
       grown = grown_twice d c1 e (grown_twice d b1 c1 (grown_pieces d b1.pieces) (grown_pieces b1 c1.pieces)) g.grown;
       named = g.named;
       stands = λ z below k.
           let A : terms.Term → Type 0 = λ (w : terms.Term). TermStands env e.tables y w e.pieces below in
           let made = expression_of (read_of makes k.at) place (declared_view at.of) in
-          let member : member_of env place dot z f ≡ class_member env dot made class f =
-          ap (λ (w : terms.Term). member_of env place dot w f) k.is ∙ ap (λ (u : Declared). field_of_place env place dot k.at u lends makes f) (class_is (declared_view at.of) class is)
+          let member : behind_alone env place dot z f ≡ class_member env dot made class f =
+          ap (λ (w : terms.Term). behind_alone env place dot w f) k.is ∙ ap (λ (u : Declared). field_of_place env place dot k.at u lends makes f) (class_is (declared_view at.of) class is)
           ∙ ap (λ (u : Declared). class_member env dot (expression_of (read_of makes k.at) place u) class f) (sym (class_is (declared_view at.of) class is)) in
           subst A (sym member) (g.stands made below (read_ends makes d.tables k.at b1.pieces below (k.ends (node_of at.kind place at.of)) (node_of (read_kind makes) place at.of)));
       there = λ z below k. ap (λ (w : terms.Term). may_be_class w) k.is;
@@ -383,39 +384,12 @@ behind_class_value env place dot v class f d b e y is before one m =
       stands = λ z below k.
           let A : terms.Term → Type 0 = λ (w : terms.Term). TermStands env e.tables y w e.pieces below in
           let made = expression_of k.made place (declared_view v.of) in
-          let member : member_of env place dot z f ≡ class_member env dot made class f =
-          ap (λ (w : terms.Term). member_of env place dot w f) k.is ∙ ap (λ (u : Declared). field_of_value env place dot k.made u f) (class_is (declared_view v.of) class is)
+          let member : behind_alone env place dot z f ≡ class_member env dot made class f =
+          ap (λ (w : terms.Term). behind_alone env place dot w f) k.is ∙ ap (λ (u : Declared). field_of_value env place dot k.made u f) (class_is (declared_view v.of) class is)
           ∙ ap (λ (u : Declared). class_member env dot (expression_of k.made place u) class f) (sym (class_is (declared_view v.of) class is)) in
           subst A (sym member) (g.stands made below (k.ends n));
       there = λ z below k. ap (λ (w : terms.Term). may_be_class w) k.is ∙ no_class_made d.tables n v.kind k.made d.pieces below before (k.ends n) (declared_view v.of);
     }) m
-
--- a member that is read
-read_when : (b : Bool) (t : terms.Term) → b ≡ true → (if b then t else no_term) ≡ t
-read_when b t h = ap (λ (c : Bool). if c then t else no_term) h
-
-pub behind_member : (env : Env) (place dot : Place) (read : HostMember) (v : Ending) (f : Identifier) (d b e : Drafted) (found : Option HostMember) → ReadsMember read d b v → FindsBehindValue env place v f.name b e found
-    → MakesBehind env place dot (term.HostMember read) f d e (found_term found dot)
-behind_member env place dot read v f d b e found r h = record {
-  grown = grown_twice d b e r.grown h.grown;
-  named = h.named dot;
-  stands = λ z below k.
-      let node = member_read k.object (member_is d.tables read) in
-      let T : DeclaredType → terms.Term = λ (of : DeclaredType). host_behind env place dot node (declared_view of) f.name in
-      let A : terms.Term → Type 0 = λ (w : terms.Term). TermStands env e.tables (found_term found dot) w e.pieces below in
-      subst A (sym (ap (λ (w : terms.Term). member_of env place dot w f) k.is ∙ read_when (read.least == 0) (T read.of) (ap (λ (n : ℕ). n == 0) r.least_is) ∙ ap T (sym r.of_is)))
-      (h.stands dot node below (r.ends k.object below k.on_top));
-  there = λ z below k. ap (λ (w : terms.Term). may_be_class w) k.is;
-}
-
-pub behind_sheet : (env : Env) (place dot : Place) (read : HostMember) (f : Identifier) (d s e : Drafted) (y : Term) → PushesSheet d s → MakesBehind env place dot (term.HostMember read) f s e y
-    → MakesBehind env place dot (term.SheetMember read) f d e y
-behind_sheet env place dot read f d s e y p m = record {
-  grown = grown_twice d s e p.grown m.grown;
-  named = m.named;
-  stands = λ z below k. m.stands z below (sheet_stands read d s p env z below k);
-  there = λ z below k. ap (λ (w : terms.Term). may_be_class w) k.0;
-}
 
 -- the sheets of the workbook
 workbook_made : (n : Node) (made : bound.Node) (ps below : List Piece) → expr_of n (host_object host.Workbook) ∷ ps ≡ expr_of n made ∷ below → made ≡ host_object host.Workbook
@@ -461,7 +435,7 @@ behind_workbook env place dot v f d y book none class is named =
           let made = workbook_made any_node k.made d.pieces below put in
           record {
             made = host_object host.Sheets;
-            is = ap (λ (w : terms.Term). member_of env place dot w f) k.is ∙ no_type_value env place dot k.made v.of f none class ∙ ap (λ (n : bound.Node). host_behind env place dot n (declared_view v.of) f.name) made
+            is = ap (λ (w : terms.Term). behind_alone env place dot w f) k.is ∙ no_type_value env place dot k.made v.of f none class ∙ ap (λ (n : bound.Node). host_behind env place dot n (declared_view v.of) f.name) made
                 ∙ object_hosted env place dot host.Workbook (declared_view v.of) f.name ∙ sheets_of place dot (declared_view v.of) f named;
             ends = λ n. ap (λ (st : List Piece). expr_of n (host_object host.Sheets) ∷ st) (workbook_below any_node k.made d.pieces below put);
           };
@@ -480,41 +454,63 @@ behind_book env place dot v f d e book none class named eq =
       stands = λ z below k.
           let made = book_made d.tables v k.made d.pieces below book k.ends in
           let A : bound.Node → Type 0 = λ (n : bound.Node). host_behind env place dot n (declared_view v.of) f.name ≡ unknown_member dot (expression_of n place (declared_view v.of)) in
-          unknown_stands env d.tables dot (expression_of k.made place (declared_view v.of)) (member_of env place dot z f) e1.pieces below
-          (ap (λ (w : terms.Term). member_of env place dot w f) k.is ∙ no_type_value env place dot k.made v.of f none class ∙ subst A (sym made) (object_hosted env place dot host.Workbook (declared_view v.of) f.name ∙ none_of place dot (declared_view v.of) f named))
+          unknown_stands env d.tables dot (expression_of k.made place (declared_view v.of)) (behind_alone env place dot z f) e1.pieces below
+          (ap (λ (w : terms.Term). behind_alone env place dot w f) k.is ∙ no_type_value env place dot k.made v.of f none class ∙ subst A (sym made) (object_hosted env place dot host.Workbook (declared_view v.of) f.name ∙ none_of place dot (declared_view v.of) f named))
           (k.ends (node_of v.kind place v.of));
       there = λ z below k.
           ap (λ (w : terms.Term). may_be_class w) k.is ∙ ap (λ (n : bound.Node). may_be_class (a_value n (declared_view v.of))) (book_made d.tables v k.made d.pieces below book k.ends);
     })
 
--- a procedure that is called
-routine_behind : (env : Env) (place dot : Place) (base : Option bound.Expr) (space : Space) (number : ℕ) (written : Written) (f : Identifier)
-    → member_of env place dot (routine_term base space number written) f ≡ node_or (bare_call env base space number written) (λ node of. field_of_value env place dot node of f)
-routine_behind env place dot None space number written f = refl
-routine_behind env place dot (Some b) space number written f = refl
+-- of what isn't Err
+is_err : terms.Term → Bool
+is_err terms.err_object = true
+is_err t = false
 
-routine_is_none : (base : Option bound.Expr) (space : Space) (number : ℕ) (written : Written) → may_be_class (routine_term base space number written) ≡ false
-routine_is_none None space number written = refl
-routine_is_none (Some b) space number written = refl
+routine_other : (base : Option bound.Expr) (space : Space) (number : ℕ) (written : Written) → is_err (routine_term base space number written) ≡ false
+unfolding is_err
+routine_other None space number written = refl
+routine_other (Some b) space number written = refl
 
-pub behind_routine : (env : Env) (place dot : Place) (r : Routine) (ending : Ending) (f : Identifier) (d e g : Drafted) (y : Term) → CallsRoutine r d e ending → MakesBehind env place dot (term.Value ending) f e g y
-    → MakesBehind env place dot (term.Routine r) f d g y
-behind_routine env place dot r ending f d e g y b m = record {
-  grown = grown_twice d e g b.grown m.grown;
+other_term : (env : Env) (t : Tables) (x : Term) → ((x ≡ term.Err) → ⊥) → (z : terms.Term) (ps below : List Piece) → TermStands env t x z ps below → is_err z ≡ false
+unfolding is_err
+other_term env t (term.Place kind of bounds lends makes) n z ps below h = ap is_err h.is
+other_term env t (term.Value e) n z ps below h = ap is_err h.is
+other_term env t (term.Routine r) n z ps below h = ap is_err h.routine.is ∙ routine_other h.routine.base h.routine.space h.routine.number h.routine.written
+other_term env t (term.Property p) n z ps below h = ap is_err h.property.is ∙ routine_other h.property.base (space_view p.space.now) h.property.number (written_view p.written)
+other_term env t (term.Function f) n z ps below h = ap is_err h.0.is
+other_term env t (term.HostMember m) n z ps below h = ap is_err h.is
+other_term env t (term.SheetMember m) n z ps below h = ap is_err h.0
+other_term env t term.Err n z ps below h = absurd (n refl)
+other_term env t term.ErrRaise n z ps below h = ap is_err h.0
+other_term env t term.ErrClear n z ps below h = ap is_err h.0
+other_term env t term.ErrorWord n z ps below h = ap is_err h.0
+other_term env t term.Nothing n z ps below h = ap is_err h
+
+member_alone : (env : Env) (place dot : Place) (z : terms.Term) (f : Identifier) → is_err z ≡ false → behind_alone env place dot (alone env place z) f ≡ member_of env place dot z f
+unfolding is_err
+member_alone env place dot terms.err_object f h = let e : true ≡ false = h in absurd cc
+member_alone env place dot z f h = refl
+
+-- what New and TypeOf are stands as it is
+alone_class : (env : Env) (place : Place) (z : terms.Term) → may_be_class (alone env place z) ≡ false → may_be_class z ≡ false
+alone_class env place (terms.a_routine space number written) h = refl
+alone_class env place (terms.a_method base space number written) h = refl
+alone_class env place (terms.a_host_member e m) h = refl
+alone_class env place (terms.a_function g text_form base) h = refl
+alone_class env place z h = h
+
+-- what stands without arguments
+pub behind_other : (env : Env) (place dot : Place) (x made : Term) (f : Identifier) (d e g : Drafted) (y : Term) → ((x ≡ term.Err) → ⊥) → StandsAlone x place d e made → MakesBehind env place dot made f e g y → MakesBehindTerm env place dot x f d g y
+behind_other env place dot x made f d e g y n a m = record {
+  grown = grown_twice d e g a.grown m.grown;
   named = m.named;
   stands = λ z below k.
-      let c = b.stands env z below k in
-      let V : bound.Node → Declared → terms.Term = λ (n : bound.Node) (u : Declared). field_of_value env place dot n u f in
-      let bare = bare_call env c.base c.space c.number c.written in
-      let same : member_of env place dot bare f ≡ member_of env place dot z f =
-      ap (λ (w : terms.Term). member_of env place dot w f) c.called.is
-      ∙ sym (ap (λ (w : terms.Term). member_of env place dot w f) c.is ∙ routine_behind env place dot c.base c.space c.number c.written f ∙ ap (λ (w : terms.Term). node_or w V) c.called.is) in
       let A : terms.Term → Type 0 = λ (w : terms.Term). TermStands env g.tables y w g.pieces below in
-      subst A same (m.stands bare below c.called);
-  there = λ z below k. ap (λ (w : terms.Term). may_be_class w) k.routine.is ∙ routine_is_none k.routine.base k.routine.space k.routine.number k.routine.written;
+      subst A (member_alone env place dot z f (other_term env d.tables x n z d.pieces below k)) (m.stands (alone env place z) below (a.stands env z below k));
+  there = λ z below k. alone_class env place z (m.there (alone env place z) below (a.stands env z below k));
 }
 
-pub behind_err : (env : Env) (place dot : Place) (f : Identifier) (d : Drafted) (y : Term) → MakesLeaf env d d y (err_member dot f.name) → MakesBehind env place dot term.Err f d d y
+pub behind_err : (env : Env) (place dot : Place) (f : Identifier) (d : Drafted) (y : Term) → MakesLeaf env d d y (err_member dot f.name) → MakesBehindTerm env place dot term.Err f d d y
 behind_err env place dot f d y m = record {
   grown = grown_same d;
   named = m.named;
@@ -550,7 +546,7 @@ dotted_base env (type_of word operand is_word of) dot f h =
 dotted_base env (unary o token operand) dot f h = refl
 dotted_base env (binary l o token r) dot f h = refl
 
-tree_stands : (env : Env) (x : Tree) (dot : Token) (f : Identifier) (d e : Drafted) (y : Term) → MakesBehind env x.place dot.place x.term f d e y → IsQualifier env.scope x None
+tree_stands : (env : Env) (x : Tree) (dot : Token) (f : Identifier) (d e : Drafted) (y : Term) → MakesBehindTerm env x.place dot.place x.term f d e y → IsQualifier env.scope x None
     → (base : Expr) (below : List Piece) → TreeStands env d.tables x base d.pieces below → TreeStands env e.tables (made_tree x None y) (behind_dot base dot f) e.pieces below
 tree_stands env x dot f d e y m k base below h =
     let none : qualifier_of env.scope base ≡ None = looked env d.tables x base d.pieces below h ∙ sym k in
@@ -568,5 +564,5 @@ tree_stands env x dot f d e y m k base below h =
       declared_is = h.declared_is;
     })
 
-pub makes_member : (env : Env) (x : Tree) (dot : Token) (f : Identifier) (d e : Drafted) (y : Term) → MakesBehind env x.place dot.place x.term f d e y → IsQualifier env.scope x None → MakesMember env x dot f d e (made_tree x None y)
+pub makes_member : (env : Env) (x : Tree) (dot : Token) (f : Identifier) (d e : Drafted) (y : Term) → MakesBehindTerm env x.place dot.place x.term f d e y → IsQualifier env.scope x None → MakesMember env x dot f d e (made_tree x None y)
 makes_member env x dot f d e y m k = record { grown = m.grown; named = m.named; stands = tree_stands env x dot f d e y m k }

@@ -14,7 +14,8 @@ use Rattle.bound_project.specs.Drafts.{Drafted}
 use Rattle.bound_names.specs.bound_members.specs.bound_calls.specs.bound_forms.specs.Terms.{Env, a_host_member, a_value, expression_of, no_term, read_of, routine_term}
 use Rattle.bound_names.specs.bound_members.specs.bound_calls.specs.bound_forms.specs.Terms as plain
 use Rattle.binder.specs.Types.{is_object}
-use Rattle.bound_names.specs.bound_members.specs.bound_calls.specs.bound_forms.specs.ExpressionsBound.{HostKind, found_member, has_item_member, host_behind, host_kind, is_found_late, is_host_type, is_of_class, item_of, kind_by_type, may_be_instance, member_of_kind, member_of_other, object_member, unknown_member}
+use Rattle.bound_names.specs.bound_members.specs.bound_calls.specs.bound_forms.specs.Operands.{HostKind, host_kind, is_found_late, is_host_type, is_of_class, kind_by_type, may_be_instance}
+use Rattle.bound_names.specs.bound_members.specs.bound_calls.specs.bound_forms.specs.Members.{found_member, has_item_member, host_behind, item_of, member_of_kind, member_of_other, object_member, unknown_member}
 use Rattle.bound_names.specs.bound_members.specs.bound_calls.specs.declared.term.Ending.{Ending}
 use Rattle.bound_names.specs.bound_members.specs.bound_calls.specs.declared.term.HostMember.{HostMember}
 use Rattle.bound_names.specs.bound_members.specs.bound_calls.specs.declared.term.Term.{Term}
@@ -262,22 +263,22 @@ has_item_of env place node of h early =
     let b = may_be_instance env (expression_of node place of) in
     ap (λ (c : Bool). c && not b) h ∙ has_item b (sym (ap (λ (c : Bool). not c && b) (not_class of h)) ∙ early)
 
-pub item_place : (env : Env) (place : Place) (x : Lvalue) (of : Declared) (bounded lends makes : Bool) → has_item_member env (expression_of (read_of makes x) place of) ≡ true
-    → item_of env place (plain.a_place x of bounded lends makes) ≡ object_member place place (read_of makes x) of (codes "item")
-item_place env place x of bounded lends makes h = ap (λ (b : Bool). if b then object_member place place (read_of makes x) of (codes "item") else plain.a_place x of bounded lends makes) h
+pub item_place : (env : Env) (place : Place) (x : Lvalue) (of : Declared) (bounds : ℕ) (lends makes : Bool) → has_item_member env (expression_of (read_of makes x) place of) ≡ true
+    → item_of env place (plain.a_place x of bounds lends makes) ≡ object_member place place (read_of makes x) of (codes "item")
+item_place env place x of bounds lends makes h = ap (λ (b : Bool). if b then object_member place place (read_of makes x) of (codes "item") else plain.a_place x of bounds lends makes) h
 
 pub item_value : (env : Env) (place : Place) (node : bound.Node) (of : Declared) → has_item_member env (expression_of node place of) ≡ true → item_of env place (a_value node of) ≡ object_member place place node of (codes "item")
 item_value env place node of h = ap (λ (b : Bool). if b then object_member place place node of (codes "item") else a_value node of) h
 
 pub place_item : (env : Env) (has : Bool) (place : Place) (at : Ending) (makes : Bool) (d e : Drafted) (found : Option HostMember) → has_class env.scope.spaces ≡ has → IsFoundLate has d.tables (record { kind = read_kind makes; of = at.of }) false
     → FindsOfPlace place at makes (codes "item") d e found → MakesPlaceItem env place at makes d e (found_term found place)
-place_item env has place at makes d e found known early f = λ bounded lends h. record {
+place_item env has place at makes d e found known early f = λ bounds lends h. record {
   grown = (f env).grown;
   named = (f env).named place;
   stands = λ z below k.
       let of = declared_view at.of in
       let A : plain.Term → Type 0 = λ (w : plain.Term). TermStands env e.tables (found_term found place) w e.pieces below in
-      subst A (sym (ap (λ (w : plain.Term). item_of env place w) k.is ∙ item_place env place k.at of bounded lends makes
+      subst A (sym (ap (λ (w : plain.Term). item_of env place w) k.is ∙ item_place env place k.at of bounds lends makes
       (has_item_of env place (read_of makes k.at) of h (read_late env place at makes has d k.at below false known early k.ends)))) ((f env).stands place k.at below k.ends);
 }
 
@@ -307,25 +308,25 @@ sheet_item env place m d e n s = record {
 }
 
 -- what has no default member Item stays as it is
-pub kept_place : (env : Env) (place : Place) (x : Lvalue) (of : Declared) (bounded lends makes : Bool) → has_item_member env (expression_of (read_of makes x) place of) ≡ false
-    → item_of env place (plain.a_place x of bounded lends makes) ≡ plain.a_place x of bounded lends makes
-kept_place env place x of bounded lends makes h = ap (λ (b : Bool). if b then object_member place place (read_of makes x) of (codes "item") else plain.a_place x of bounded lends makes) h
+pub kept_place : (env : Env) (place : Place) (x : Lvalue) (of : Declared) (bounds : ℕ) (lends makes : Bool) → has_item_member env (expression_of (read_of makes x) place of) ≡ false
+    → item_of env place (plain.a_place x of bounds lends makes) ≡ plain.a_place x of bounds lends makes
+kept_place env place x of bounds lends makes h = ap (λ (b : Bool). if b then object_member place place (read_of makes x) of (codes "item") else plain.a_place x of bounds lends makes) h
 
 pub kept_value : (env : Env) (place : Place) (node : bound.Node) (of : Declared) → has_item_member env (expression_of node place of) ≡ false → item_of env place (a_value node of) ≡ a_value node of
 kept_value env place node of h = ap (λ (b : Bool). if b then object_member place place node of (codes "item") else a_value node of) h
 
 -- what the run finds
-pub late_at : (has : Bool) (t : Tables) (kind read : NodeKind) (of : DeclaredType) (bounded lends makes b : Bool) → read ≡ read_kind makes → MatchBool b (IsFoundLate has t (record { kind = read; of = of }) true) (Unit {0})
-    → MatchBool b (KeepsTerm has t (term.Place kind of bounded lends makes)) (Unit {0})
-late_at has t kind read of bounded lends makes false reads h = tt
-late_at has t kind read of bounded lends makes true reads h = record {
+pub late_at : (has : Bool) (t : Tables) (kind read : NodeKind) (of : DeclaredType) (bounds : ℕ) (lends makes b : Bool) → read ≡ read_kind makes → MatchBool b (IsFoundLate has t (record { kind = read; of = of }) true) (Unit {0})
+    → MatchBool b (KeepsTerm has t (term.Place kind of bounds lends makes)) (Unit {0})
+late_at has t kind read of bounds lends makes false reads h = tt
+late_at has t kind read of bounds lends makes true reads h = record {
   other = refl;
   kept = λ env known place z ps below k.
       let N : NodeKind → Type 0 = λ (q : NodeKind). IsFoundLate has t (record { kind = q; of = of }) true in
       let u = declared_view of in
       let qs = put t (node_of kind place of) ps in
       let S : plain.Term → Type 0 = λ (w : plain.Term). item_of env place w ≡ w in
-      subst S (sym k.is) (kept_place env place k.at u bounded lends makes
+      subst S (sym k.is) (kept_place env place k.at u bounds lends makes
       (no_item_late env place (read_of makes k.at) u (subst N reads h env (read_of makes k.at) place qs below known (read_ends makes t k.at qs below (k.ends (node_of kind place of))))));
 }
 
@@ -352,8 +353,8 @@ no_host_item env place node of h = ap (λ (c : Bool). c && not (may_be_instance 
 
 same_item : (env : Env) (t : Tables) (place : Place) (x : Term) (z : plain.Term) (ps below : List Piece) → is_host_term x ≡ false → TermStands env t x z ps below → item_of env place z ≡ z
 unfolding Same
-same_item env t place (term.Place kind of bounded lends makes) z ps below h k =
-    subst (Same env place) (sym k.is) (kept_place env place k.at (declared_view of) bounded lends makes (no_host_item env place (read_of makes k.at) (declared_view of) h))
+same_item env t place (term.Place kind of bounds lends makes) z ps below h k =
+    subst (Same env place) (sym k.is) (kept_place env place k.at (declared_view of) bounds lends makes (no_host_item env place (read_of makes k.at) (declared_view of) h))
 same_item env t place (term.Value v) z ps below h k = subst (Same env place) (sym k.is) (kept_value env place k.made (declared_view v.of) (no_host_item env place k.made (declared_view v.of) h))
 same_item env t place (term.Routine r) z ps below h k = subst (Same env place) (sym k.routine.is) (routine_same env place k.routine.base k.routine.space k.routine.number k.routine.written)
 same_item env t place (term.Property p) z ps below h k = subst (Same env place) (sym k.property.is) (routine_same env place k.property.base (space_view p.space.now) k.property.number (written_view p.written))

@@ -18,7 +18,8 @@ use Rattle.bound_project.specs.Pieces.{Piece, Tables}
 use Rattle.bound_names.specs.bound_members.specs.bound_calls.specs.bound_forms.specs.Terms.{Env, expression_of, read_of}
 use Rattle.binder.specs.Classes.{has_class}
 use Rattle.bound_names.specs.bound_members.specs.bound_calls.specs.bound_forms.specs.Terms as plain
-use Rattle.bound_names.specs.bound_members.specs.bound_calls.specs.bound_forms.specs.ExpressionsBound.{has_item_member, host_kind, is_host_type, is_instance_type, item_of, kind_by_type, may_be_instance, object_member, sheet, unknown_member}
+use Rattle.bound_names.specs.bound_members.specs.bound_calls.specs.bound_forms.specs.Operands.{host_kind, is_host_type, is_instance_type, kind_by_type, may_be_instance, sheet}
+use Rattle.bound_names.specs.bound_members.specs.bound_calls.specs.bound_forms.specs.Members.{has_item_member, item_of, object_member, unknown_member}
 use Rattle.bound_names.specs.bound_members.specs.bound_calls.specs.declared.term.Ending.{Ending}
 use Rattle.bound_names.specs.bound_members.specs.bound_calls.specs.declared.term.Term.{Term}
 use Rattle.bound_names.specs.bound_members.specs.bound_calls.specs.declared.term.Term.TheVariants as term
@@ -84,12 +85,12 @@ value_lacks env t place v z ps below false s h k =
 
 -- what brackets behind it make is told at its first token
 pub no_item : (env : Env) (t : Tables) (place : Place) (x : Term) (z : plain.Term) (ps below : List Piece) → lacks_item x ≡ true → TermStands env t x z ps below → LacksItem env place z
-no_item env t place (term.Place kind of bounded lends makes) z ps below h k =
+no_item env t place (term.Place kind of bounds lends makes) z ps below h k =
     let u = declared_view of in
     let is : u ≡ type.worksheet = sheet_type of h in
     record {
       object = expression_of (read_of makes k.at) place u;
-      is = ap (λ (w : plain.Term). item_of env place w) k.is ∙ item_place env place k.at u bounded lends makes (asks_item env place (read_of makes k.at) u (ap is_host_type is) (sheet_no env place (read_of makes k.at) u is))
+      is = ap (λ (w : plain.Term). item_of env place w) k.is ∙ item_place env place k.at u bounds lends makes (asks_item env place (read_of makes k.at) u (ap is_host_type is) (sheet_no env place (read_of makes k.at) u is))
           ∙ sheet_lacks place (read_of makes k.at) u (read_kind_of makes k.at u ∙ ap kind_by_type is);
     }
 no_item env t place (term.Value v) z ps below h k = value_lacks env t place v z ps below (is_sheet v.of) refl h k

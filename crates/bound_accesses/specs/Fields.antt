@@ -1,5 +1,5 @@
 -- Serves the code: fields of user types, and what a With block keeps.
-use Rattle.std.specs.Prelude.{◌≡◌, ℕ, Bool, false, List, ◌∷◌, Option, Some, None, bytes_eq}
+use Rattle.std.specs.Prelude.{◌≡◌, ℕ, ◌==◌, Bool, false, not, length, List, ◌∷◌, Option, Some, None, bytes_eq}
 use Rattle.vba_base.specs.declared.place.Place.{Place}
 use Rattle.vba_words.specs.declared.identifier.Identifier.{Identifier}
 use Rattle.bound_project.specs.declared.declared_type.DeclaredType.{DeclaredType}
@@ -14,8 +14,7 @@ use Rattle.bound_project.specs.Pieces.{Piece, Tables, an_expr, a_place}
 use Rattle.bound_project.specs.Drafts.{Drafted}
 use Rattle.bound_names.specs.bound_members.specs.bound_calls.specs.bound_forms.specs.Terms.{Env, expression_of, read_of}
 use Rattle.bound_names.specs.bound_members.specs.bound_calls.specs.bound_forms.specs.Terms as plain
-use Rattle.bound_names.specs.bound_members.specs.bound_calls.specs.bound_forms.specs.ExpressionsBound.{field_of_place, field_of_value, kept_member, member_of, unknown_member}
-use Rattle.binder.specs.Storage.{has_bounds}
+use Rattle.bound_names.specs.bound_members.specs.bound_calls.specs.bound_forms.specs.Members.{behind_alone, field_of_place, field_of_value, kept_member, member_of, unknown_member}
 use Rattle.bound_accesses.specs.declared.fields.Field.{Field}
 use Rattle.bound_accesses.specs.Items.{may_be_class}
 use Rattle.bound_names.specs.bound_members.specs.bound_calls.specs.declared.term.Term.{Term}
@@ -36,7 +35,7 @@ pub record FieldFound (found : Option (ℕ × Declaration)) (field : Field) : Ty
   pub declaration : Declaration
   pub is : found ≡ Some (field.number, declaration)
   pub of_is : declaration.of ≡ declared_view field.of
-  pub bounded_is : has_bounds declaration ≡ field.is_bounded
+  pub bounds_are : length declaration.bounds ≡ field.bounds
 
 -- the same, or there is none
 abbrev pub FieldIs : Option (ℕ × Declaration) → Option Field → Type 0
@@ -46,7 +45,7 @@ FieldIs found (Some field) = FieldFound found field
 -- the field of a place, and of a value, if there is one
 abbrev pub place_found : Option Field → (lends : Bool) → Option Term
 place_found None lends = None
-place_found (Some x) lends = Some (term.Place (kinds.Field x.number x.of x.is_bounded) x.of x.is_bounded lends false)
+place_found (Some x) lends = Some (term.Place (kinds.Field x.number x.of (not (x.bounds == 0))) x.of x.bounds lends false)
 
 abbrev pub value_found : Option Field → Option Term
 value_found None = None
@@ -87,8 +86,15 @@ pub record KeepsField (env : Env) (place : Place) (f : Identifier) (d e : Drafte
   pub named : TermNamed e.tables x
   pub stands : TermStands env e.tables x (kept_member env place env.within f) e.pieces d.pieces
 
--- what stands behind a dot, behind a term that begins at a place
+-- what stands behind a dot, behind a place or a value that begins at a place
 pub record MakesBehind (env : Env) (place dot : Place) (x : Term) (f : Identifier) (d e : Drafted) (y : Term) : Type 0 where
+  pub grown : Grown d e
+  pub named : TermNamed e.tables y
+  pub stands : (z : plain.Term) (below : List Piece) → TermStands env d.tables x z d.pieces below → TermStands env e.tables y (behind_alone env place dot z f) e.pieces below
+  pub there : (z : plain.Term) (below : List Piece) → TermStands env d.tables x z d.pieces below → may_be_class z ≡ false
+
+-- the same behind any term
+pub record MakesBehindTerm (env : Env) (place dot : Place) (x : Term) (f : Identifier) (d e : Drafted) (y : Term) : Type 0 where
   pub grown : Grown d e
   pub named : TermNamed e.tables y
   pub stands : (z : plain.Term) (below : List Piece) → TermStands env d.tables x z d.pieces below → TermStands env e.tables y (member_of env place dot z f) e.pieces below

@@ -16,7 +16,8 @@ use Rattle.bound_project.specs.Drafts.{Drafted}
 use Rattle.bound_names.specs.bound_members.specs.bound_calls.specs.bound_forms.specs.Terms.{Env, a_host_member, a_value, expression_of, no_term, read_of}
 use Rattle.bound_names.specs.bound_members.specs.bound_calls.specs.bound_forms.specs.Terms as plain
 use Rattle.binder.specs.Types.{is_object}
-use Rattle.bound_names.specs.bound_members.specs.bound_calls.specs.bound_forms.specs.ExpressionsBound.{found_member, is_host_type, item_of, kind_by_type, object_member, unknown_member, host_behind}
+use Rattle.bound_names.specs.bound_members.specs.bound_calls.specs.bound_forms.specs.Operands.{is_host_type, kind_by_type}
+use Rattle.bound_names.specs.bound_members.specs.bound_calls.specs.bound_forms.specs.Members.{found_member, item_of, object_member, unknown_member, host_behind}
 use Rattle.binder.specs.Classes.{has_class}
 use Rattle.bound_names.specs.bound_members.specs.bound_calls.specs.declared.term.Ending.{Ending}
 use Rattle.bound_names.specs.bound_members.specs.bound_calls.specs.declared.term.HostMember.{HostMember}
@@ -94,7 +95,7 @@ FindsBehindValue env place v fold d e found = FindsInValue env (λ (dot : Place)
 
 -- whether a term is of an object's type, or a member of one
 abbrev pub is_host_term : Term → Bool
-is_host_term (term.Place kind of bounded lends makes) = is_host_type (declared_view of)
+is_host_term (term.Place kind of bounds lends makes) = is_host_type (declared_view of)
 is_host_term (term.Value e) = is_host_type (declared_view e.of)
 is_host_term (term.HostMember m) = true
 is_host_term (term.SheetMember m) = true
@@ -112,7 +113,7 @@ is_bare kind = false
 
 -- whether an object has no default member with arguments
 abbrev pub lacks_item : Term → Bool
-lacks_item (term.Place kind of bounded lends makes) = is_sheet of
+lacks_item (term.Place kind of bounds lends makes) = is_sheet of
 lacks_item (term.Value e) = if is_sheet e.of then is_typed_kind e.kind else is_host_type (declared_view e.of) && is_bare e.kind
 lacks_item x = false
 
@@ -148,7 +149,7 @@ pub record MakesItem (env : Env) (place : Place) (x : Term) (d e : Drafted) (y :
 
 -- the same of an object at a place, and of one that a value gives
 abbrev pub MakesPlaceItem : Env → Place → Ending → (makes : Bool) → Drafted → Drafted → Term → Type 0
-MakesPlaceItem env place at makes d e y = (bounded lends : Bool) → is_host_type (declared_view at.of) ≡ true → MakesItem env place (term.Place at.kind at.of bounded lends makes) d e y
+MakesPlaceItem env place at makes d e y = (bounds : ℕ) (lends : Bool) → is_host_type (declared_view at.of) ≡ true → MakesItem env place (term.Place at.kind at.of bounds lends makes) d e y
 
 abbrev pub MakesValueItem : Env → Place → Ending → Drafted → Drafted → Term → Type 0
 MakesValueItem env place v d e y = is_host_type (declared_view v.of) ≡ true → MakesItem env place (term.Value v) d e y

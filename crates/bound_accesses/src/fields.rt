@@ -1,13 +1,12 @@
 //! Fields of user types, and what a With block keeps.
 
-ghost use Rattle.std.specs.Prelude.{◌≡◌, true, IfOk, OnOk, is_some, map, option_map, reverse, slice_index_or, None, Some};
+ghost use Rattle.std.specs.Prelude.{◌≡◌, true, IfOk, OnOk, is_some, length, map, option_map, reverse, slice_index_or, None, Some};
 ghost use Rattle.vba_expression.specs.declared.node.ExpressionNode.TheVariants as node;
 ghost use Rattle.vba_expression.specs.Nodes.{behind_node};
 ghost use Rattle.bound_project.specs.DraftView.{draft_view};
 ghost use Rattle.bound_project.specs.Drafts.{NodeNamed};
 ghost use Rattle.bound_project.specs.View.{declaration_view, declared_view, user_type_view};
-ghost use Rattle.binder.specs.Storage as stored;
-ghost use Rattle.bound_names.specs.bound_members.specs.bound_calls.specs.bound_forms.specs.ExpressionsBound as bound;
+ghost use Rattle.bound_names.specs.bound_members.specs.bound_calls.specs.bound_forms.specs.Members as members;
 ghost use Rattle.binder.specs.Scopes.{first_at};
 ghost use Rattle.bound_accesses.specs.Fields.{FieldIs, FieldOrNone, KeepsField, MakesBehind, PlacesField, ValueOrNone, is_field_named, place_found, user_type_in, value_found};
 ghost use Rattle.bound_names.specs.bound_members.specs.bound_calls.specs.Standing.{AllNamed};
@@ -16,7 +15,9 @@ ghost use Rattle.bound_names.specs.View.{EnvStands, env_view, within_view};
 ghost use Rattle.binder.specs.Classes as classes;
 
 use crate::items::{behind_object_place, found_term};
-use bound_names::bound_members::bound_calls::bound_declarations::{NotYet, class_in};
+use bound_names::bound_members::bound_calls::bound_declarations::{
+    NotYet, bounds_declared, class_in,
+};
 use bound_names::bound_members::bound_calls::{
     Ending, Item, Term, Tree, push_node, put_item, read_kind, settle,
 };
@@ -27,12 +28,12 @@ use vba_base::{NoMemory, OrMemory, Place};
 use vba_lexer::Token;
 use vba_words::Identifier;
 
-/// A field of a user type: its number, its type, and whether it is an array that is declared with bounds.
+/// A field of a user type: its number, its type, and how many bounds it is declared with as an array.
 #[derive(Clone, Copy)]
 pub struct Field {
     pub number: u32,
     pub of: DeclaredType,
-    pub is_bounded: bool,
+    pub bounds: u32,
 }
 
 /// The number of the user type that a type is.
@@ -47,7 +48,7 @@ pub fn user_type(of: DeclaredType) -> Option<u32>
 
 /// The fields of the user type with a number.
 fn fields_at<'a>(types: &'a Vec<UserType>, number: usize) -> &'a [Declaration]
-    ensures { map declaration_view result.now ≡ (slice_index_or (map user_type_view types.now.items) number bound.no_type).fields }
+    ensures { map declaration_view result.now ≡ (slice_index_or (map user_type_view types.now.items) number members.no_type).fields }
 {
     if let Some(of) = types.get(number) {
         return of.fields.as_slice();
@@ -73,15 +74,16 @@ fn first_field<'a>(fields: &'a [Declaration], name: &Identifier) -> Option<(usiz
 fn known_field(number: usize, declaration: &Declaration) -> Result<Field, NoMemory>
     ensures number { IfOk result (λ field. field.number ≡ number) }
     ensures of { IfOk result (λ field. declared_view field.of ≡ (declaration_view declaration.now).of) }
-    ensures bounded { IfOk result (λ field. field.is_bounded ≡ stored.has_bounds (declaration_view declaration.now)) }
+    ensures bounds { IfOk result (λ field. field.bounds ≡ length (declaration_view declaration.now).bounds) }
 {
     let Ok(number) = u32::try_from(number) else {
         return Err(NoMemory);
     };
+    let bounds = bounds_declared(declaration)?;
     Ok(Field {
         number,
         of: declaration.of,
-        is_bounded: !declaration.bounds.as_slice().is_empty(),
+        bounds,
     })
 }
 
@@ -101,7 +103,7 @@ fn field_at(fields: &[Declaration], name: &Identifier) -> Result<Option<Field>, 
 /// A field of a user type, by its name, if there is one.
 fn field_named<'a>(env: Env<'a>, number: u32, name: &Identifier) -> Result<Option<Field>, NoMemory>
     requires { EnvStands env }
-    ensures { IfOk result (λ found. FieldIs (bound.field_named (env_view env.entry) number name.now) found) }
+    ensures { IfOk result (λ found. FieldIs (members.field_named (env_view env.entry) number name.now) found) }
 {
     field_at(fields_at(&env.declared.types, number as usize), name)
 }
@@ -116,10 +118,10 @@ fn place_found<'a>(found: Option<Field>, lends: bool) -> Option<Term<'a>>
             kind: NodeKind::Field {
                 field: field.number,
                 of: field.of,
-                is_bounded: field.is_bounded,
+                is_bounded: field.bounds != 0,
             },
             of: field.of,
-            is_bounded: field.is_bounded,
+            bounds: field.bounds,
             lends,
             makes: false,
         }),

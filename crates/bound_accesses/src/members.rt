@@ -1,4 +1,4 @@
-ghost use Rattle.std.specs.Prelude.{◌≡◌, ◌<◌, length, Bool, OnOk, IfOk, None, Some, option_map, reverse, true};
+ghost use Rattle.std.specs.Prelude.{◌≡◌, ℕ, Bool, OnOk, IfOk, None, Some, option_map, reverse, true};
 ghost use Rattle.vba_expression.specs.declared.node.ExpressionNode.TheVariants as node;
 ghost use Rattle.vba_expression.specs.Nodes.{behind_node};
 ghost use Rattle.vba_lexer.specs.declared.token.Token.{Token};
@@ -8,13 +8,13 @@ ghost use Rattle.bound_project.specs.Drafts.{Drafted, NodeNamed};
 ghost use Rattle.bound_project.specs.declared.node.NodeKind.TheVariants as node_kind;
 ghost use Rattle.bound_project.specs.Expressions.{err_value, no_exprs};
 ghost use Rattle.bound_project.specs.View.{element_view, member_view, declared_view};
-ghost use Rattle.bound_names.specs.bound_members.specs.bound_calls.specs.bound_forms.specs.ExpressionsBound as bound;
+ghost use Rattle.bound_names.specs.bound_members.specs.bound_calls.specs.bound_forms.specs.Members as members_bound;
 ghost use Rattle.binder.specs.Scopes as scopes;
 ghost use Rattle.bound_names.specs.bound_members.specs.bound_calls.specs.bound_forms.specs.Terms as plain;
 ghost use Rattle.bound_names.specs.bound_members.specs.bound_calls.specs.bound_declarations.specs.constant_values.specs.Rounds.{IsPlace};
 ghost use Rattle.bound_names.specs.bound_members.specs.bound_calls.specs.bound_declarations.specs.constant_values.specs.declared_names.specs.View.{qualifier_view, scope_view};
 ghost use Rattle.bound_accesses.specs.Qualified.{IsQualifier, MakesMember, dotted_view, looked_up, names_sheets};
-ghost use Rattle.bound_accesses.specs.Fields.{MakesBehind, user_type_in};
+ghost use Rattle.bound_accesses.specs.Fields.{MakesBehind, MakesBehindTerm, user_type_in};
 ghost use Rattle.bound_accesses.specs.Items.{is_before_dot};
 ghost use Rattle.bound_names.specs.bound_members.specs.bound_calls.specs.Standing.{AllNamed, TermNamed};
 ghost use Rattle.bound_names.specs.bound_members.specs.bound_calls.specs.Steps.{Goes, MakesLeaf};
@@ -28,8 +28,8 @@ use bound_names::bound_members::bound_calls::bound_declarations::constant_values
 };
 use bound_names::bound_members::bound_calls::bound_declarations::{NotYet, class_in};
 use bound_names::bound_members::bound_calls::{
-    Dotted, Ending, HostMember, Item, Routine, Term, Tree, is_typed_kind, member_ending, push_node,
-    push_sheet, put_item, read_kind, routine_ending, take_item,
+    Dotted, Ending, Item, Term, Tree, alone, is_typed_kind, push_node, put_item, read_kind,
+    take_item,
 };
 use bound_names::bound_members::is_word;
 use bound_names::{
@@ -70,7 +70,7 @@ fn no_err_member<'a>(dot: Place) -> Term<'a>
 
 /// A member of Err.
 fn err_member<'a>(dot: Place, name: &Identifier) -> Term<'a>
-    ensures { (env : plain.Env) (d : Drafted) → MakesLeaf env d d result (bound.err_member dot name.now.name) }
+    ensures { (env : plain.Env) (d : Drafted) → MakesLeaf env d d result (members_bound.err_member dot name.now.name) }
 {
     let text = name.name.units();
     if is_word(text, b"number") {
@@ -173,7 +173,7 @@ fn behind_class_place<'a>(
     requires env { EnvStands env }
     requires named { NodeNamed (draft_view draft.old).tables at.kind }
     requires class { classes.class_in (declared_view at.of) ≡ Some class }
-    ensures { IfOk result (λ term. (bounded lends : Bool) → MakesBehind (env_view env.entry) place dot (Term.Place at.kind at.of bounded lends makes) member.now (draft_view draft.old) (draft_view draft.new) term) }
+    ensures { IfOk result (λ term. (bounds : ℕ) (lends : Bool) → MakesBehind (env_view env.entry) place dot (Term.Place at.kind at.of bounds lends makes) member.now (draft_view draft.old) (draft_view draft.new) term) }
 {
     push_node(draft, at.kind, at.of, place)?;
     push_node(draft, read_kind(makes), at.of, place)?;
@@ -195,7 +195,7 @@ fn behind_plain_place<'a>(
     requires env { EnvStands env }
     requires named { NodeNamed (draft_view draft.old).tables at.kind }
     requires class { classes.class_in (declared_view at.of) ≡ None }
-    ensures { IfOk result (λ term. (bounded : Bool) → MakesBehind (env_view env.entry) place dot (Term.Place at.kind at.of bounded lends makes) member.now (draft_view draft.old) (draft_view draft.new) term) }
+    ensures { IfOk result (λ term. (bounds : ℕ) → MakesBehind (env_view env.entry) place dot (Term.Place at.kind at.of bounds lends makes) member.now (draft_view draft.old) (draft_view draft.new) term) }
 {
     match user_type(at.of) {
         None => {
@@ -221,7 +221,7 @@ fn behind_place<'a>(
 ) -> Result<Term<'a>, OrMemory<NotYet>>
     requires env { EnvStands env }
     requires named { NodeNamed (draft_view draft.old).tables at.kind }
-    ensures { IfOk result (λ term. (bounded : Bool) → MakesBehind (env_view env.entry) place dot (Term.Place at.kind at.of bounded lends makes) member.now (draft_view draft.old) (draft_view draft.new) term) }
+    ensures { IfOk result (λ term. (bounds : ℕ) → MakesBehind (env_view env.entry) place dot (Term.Place at.kind at.of bounds lends makes) member.now (draft_view draft.old) (draft_view draft.new) term) }
 {
     match class_in(at.of) {
         Some(class) => behind_class_place(draft, env, place, dot, at, makes, class, member),
@@ -361,61 +361,8 @@ fn behind_value<'a>(
     }
 }
 
-/// A name behind a member of an object, which is read.
-fn behind_member<'a>(
-    alloc: Global,
-    draft: &mut Draft,
-    env: Env<'a>,
-    place: Place,
-    dot: Place,
-    read: HostMember,
-    member: &Identifier,
-) -> Result<Term<'a>, OrMemory<NotYet>>
-    requires { read.name < length (draft_view draft.old).tables.constants }
-    ensures { IfOk result (λ made. MakesBehind (env_view env.entry) place dot (Term.HostMember read) member.now (draft_view draft.old) (draft_view draft.new) made) }
-{
-    let ending = member_ending(alloc, draft, read, place)?;
-    let name = folded(alloc, member)?;
-    let found = behind_object_value(draft, env, place, ending, name)?;
-    Ok(found_term(found, dot))
-}
-
-/// A name behind a member of the active sheet, which is read.
-fn behind_sheet_member<'a>(
-    alloc: Global,
-    draft: &mut Draft,
-    env: Env<'a>,
-    place: Place,
-    dot: Place,
-    read: HostMember,
-    member: &Identifier,
-) -> Result<Term<'a>, OrMemory<NotYet>>
-    requires { read.name < length (draft_view draft.old).tables.constants }
-    ensures { IfOk result (λ made. MakesBehind (env_view env.entry) place dot (Term.SheetMember read) member.now (draft_view draft.old) (draft_view draft.new) made) }
-{
-    push_sheet(draft)?;
-    behind_member(alloc, draft, env, place, dot, read, member)
-}
-
-/// A name behind a procedure, which is called.
-fn behind_routine<'a>(
-    alloc: Global,
-    draft: &mut Draft,
-    env: Env<'a>,
-    place: Place,
-    dot: Place,
-    routine: Routine<'a>,
-    member: &Identifier,
-) -> Result<Term<'a>, OrMemory<NotYet>>
-    requires { EnvStands env }
-    ensures { IfOk result (λ term. MakesBehind (env_view env.entry) place dot (Term.Routine routine.entry) member.now (draft_view draft.old) (draft_view draft.new) term) }
-{
-    let ending = routine_ending(alloc, draft, routine)?;
-    behind_value(alloc, draft, env, place, dot, ending, member)
-}
-
-/// A name behind a term.
-fn behind_term<'a>(
+/// A name behind a place or a value.
+fn behind_alone<'a>(
     alloc: Global,
     draft: &mut Draft,
     env: Env<'a>,
@@ -440,11 +387,30 @@ fn behind_term<'a>(
             behind_place(alloc, draft, env, place, dot, at, lends, makes, member)
         }
         Term::Value(ending) => behind_value(alloc, draft, env, place, dot, ending, member),
-        Term::Routine(routine) => behind_routine(alloc, draft, env, place, dot, routine, member),
-        Term::HostMember(read) => behind_member(alloc, draft, env, place, dot, read, member),
-        Term::SheetMember(read) => behind_sheet_member(alloc, draft, env, place, dot, read, member),
-        Term::Err => Ok(err_member(dot, member)),
         _ => Err(OrMemory::Fault(NotYet)),
+    }
+}
+
+/// A name behind a term: a procedure, a member and a function stand there without arguments.
+fn behind_term<'a>(
+    alloc: Global,
+    draft: &mut Draft,
+    env: Env<'a>,
+    place: Place,
+    dot: Place,
+    term: Term<'a>,
+    member: &Identifier,
+) -> Result<Term<'a>, OrMemory<NotYet>>
+    requires env { EnvStands env }
+    requires named { TermNamed (draft_view draft.old).tables term }
+    ensures { IfOk result (λ made. MakesBehindTerm (env_view env.entry) place dot term.entry member.now (draft_view draft.old) (draft_view draft.new) made) }
+{
+    match term {
+        Term::Err => Ok(err_member(dot, member)),
+        _ => {
+            let stands = alone(alloc, draft, term, place)?;
+            behind_alone(alloc, draft, env, place, dot, stands, member)
+        }
     }
 }
 

@@ -13,7 +13,7 @@ use Rattle.bound_project.specs.declared.declarations.Parameter.{Parameter}
 use Rattle.bound_project.specs.declared.statement.ActionKind.{ActionKind}
 use Rattle.bound_project.specs.declared.statement.ActionKind.TheVariants as action
 use Rattle.bound_project.specs.Bodies.{element_found}
-use Rattle.bound_project.specs.Expressions.{Exprs, Lvalue, no_exprs, value_place}
+use Rattle.bound_project.specs.Expressions.{Exprs, Lvalue, late_item, no_exprs, value_place}
 use Rattle.bound_project.specs.Expressions as bound
 use Rattle.bound_project.specs.Project as project
 use Rattle.bound_project.specs.Statements.{Action, assign_element}
@@ -29,10 +29,12 @@ use Rattle.declared_names.specs.binder.specs.Scopes.{Space}
 use Rattle.declared_names.specs.binder.specs.Signatures.{parameters_in, setter, writer}
 use Rattle.declared_names.specs.binder.specs.Storage.{procedure_number}
 use Rattle.declared_names.specs.binder.specs.Types.{is_object}
-use Rattle.bound_terms.specs.bound_accesses.specs.bound_names.specs.bound_members.specs.bound_calls.specs.bound_forms.specs.Terms.{Env, Given, routine_term, takes}
+use Rattle.bound_terms.specs.bound_accesses.specs.bound_names.specs.bound_members.specs.bound_calls.specs.bound_forms.specs.Terms.{Env, Given, a_value, routine_term, takes}
 use Rattle.bound_terms.specs.bound_accesses.specs.bound_names.specs.bound_members.specs.bound_calls.specs.bound_forms.specs.Terms as plain
-use Rattle.bound_terms.specs.bound_accesses.specs.bound_names.specs.bound_members.specs.bound_calls.specs.bound_forms.specs.ExpressionsBound.{argument_of, behind_base, callee, givens, item_of, term_of, place_told}
-use Rattle.bound_terms.specs.bound_accesses.specs.bound_names.specs.bound_members.specs.bound_calls.specs.bound_forms.specs.StatementsBound.{assigned, broken_target, class_of_term, given_behind, index_assigned, is_no_target, is_param_array, is_indexed_late, is_sub, property_given, set_by, takes_value, target_before, untaken as not_taken}
+use Rattle.bound_terms.specs.bound_accesses.specs.bound_names.specs.bound_members.specs.bound_calls.specs.bound_forms.specs.Operands.{argument_of, behind_base, place_told}
+use Rattle.bound_terms.specs.bound_accesses.specs.bound_names.specs.bound_members.specs.bound_calls.specs.bound_forms.specs.Members.{item_of}
+use Rattle.bound_terms.specs.bound_accesses.specs.bound_names.specs.bound_members.specs.bound_calls.specs.bound_forms.specs.ExpressionsBound.{callee, givens, indexed, term_of}
+use Rattle.bound_terms.specs.bound_accesses.specs.bound_names.specs.bound_members.specs.bound_calls.specs.bound_forms.specs.Targets.{assigned, broken_target, class_of_term, given_behind, index_assigned, is_no_target, is_param_array, is_indexed_late, is_sub, property_given, set_by, takes_value, target_before, untaken as not_taken}
 use Rattle.declared_names.specs.View.{space_view, written_view}
 use Rattle.bound_terms.specs.bound_accesses.specs.bound_names.specs.bound_members.specs.bound_calls.specs.declared.term.Property.{Property}
 use Rattle.bound_terms.specs.bound_accesses.specs.bound_names.specs.bound_members.specs.bound_calls.specs.declared.term.Receiver.{Receiver}
@@ -40,7 +42,7 @@ use Rattle.bound_terms.specs.bound_accesses.specs.bound_names.specs.bound_member
 use Rattle.bound_terms.specs.bound_accesses.specs.bound_names.specs.bound_members.specs.bound_calls.specs.declared.term.Term.TheVariants as term
 use Rattle.bound_terms.specs.bound_accesses.specs.bound_names.specs.bound_members.specs.bound_calls.specs.declared.term.Tree.{Tree}
 use Rattle.bound_terms.specs.bound_accesses.specs.bound_names.specs.bound_members.specs.bound_calls.specs.Calls.{PassesRest, PushesReceiver}
-use Rattle.bound_terms.specs.bound_accesses.specs.bound_names.specs.bound_members.specs.bound_calls.specs.Standing.{IsReceiver, PropertyStands, ReceiverStands, TermStands}
+use Rattle.bound_terms.specs.bound_accesses.specs.bound_names.specs.bound_members.specs.bound_calls.specs.Standing.{IsReceiver, PropertyStands, ReceiverStands, TermStands, TreeStands}
 use Rattle.bound_terms.specs.bound_accesses.specs.bound_names.specs.bound_members.specs.bound_calls.specs.Steps.{Leaves}
 use Rattle.bound_terms.specs.bound_accesses.specs.bound_names.specs.bound_members.specs.bound_calls.proofs.Growing.{grown_twice}
 use Rattle.bound_terms.specs.bound_accesses.specs.bound_names.specs.bound_members.specs.bound_calls.proofs.Reading.{given_whole, let_whole}
@@ -52,7 +54,7 @@ use Rattle.bound_terms.specs.bound_accesses.specs.Items.{ItemKept, KeepsItem, is
 use Rattle.bound_terms.specs.bound_accesses.specs.bound_names.specs.bound_members.specs.bound_calls.specs.declared.term.Ending.{Ending}
 use Rattle.statement_terms.specs.declared.assigning.PropertyLet.{PropertyLet}
 use Rattle.statement_terms.specs.declared.trees.Split.{Split}
-use Rattle.statement_terms.specs.Called.{ActionIs, AssignsTo, IsBare, LeavesAlone, Lets, LetsOn, LetsTaken, LetsWith, SplitAt, args_on, is_method, let_with, property_gets, property_kind}
+use Rattle.statement_terms.specs.Called.{ActionIs, AssignsTo, IsBare, LeavesAlone, Lets, LetsOn, LetsTaken, LetsWith, SplitAt, args_on, is_method, item_before, let_with, property_gets, property_kind}
 use Rattle.statement_terms.specs.Heights.{AddsOne}
 use Rattle.statement_terms.specs.Members.{AssignsItem}
 use Rattle.statement_terms.specs.Targets.{IndexedLate, IsLateValue}
@@ -60,11 +62,14 @@ use Rattle.statement_terms.proofs.WrittenTargets.{late_value_indexed}
 use Rattle.statement_terms.proofs.Assigned.{a_target, all_is, bare_assigned, bare_given, base_there, index_at, item_itself, let_done, let_made, passes_front, property_named, property_of, split_assigned, split_given}
 use Rattle.statement_terms.proofs.Called.{index_is}
 use Rattle.statement_terms.proofs.NodeTrees.{continued}
-use Rattle.bound_actions.specs.Assigning.{AssignsItemOf, ItemGiven, GivesProperty, RefusesNone, part_for}
+use Rattle.bound_actions.specs.Assigning.{AssignsItemOf, ItemGiven, GivesProperty, part_for}
 use Rattle.bound_actions.specs.ClassItems.{term_class}
 use Rattle.bound_actions.specs.LateItems.{LeadsFrom}
 use Rattle.bound_actions.proofs.ClassTerms.{class_stands, index_plain, kept_class, kept_led}
-use Rattle.bound_actions.proofs.Refusing.{module_alone}
+use Rattle.bound_actions.proofs.Behind.{args_of, index_target, indexed_whole, kept_added, kept_args, tree_behind, whole_added, whole_closed, whole_framed}
+use Rattle.bound_actions.specs.Behind.{AssignsBehind, AssignsWhole}
+use Rattle.bound_actions.specs.NoTargets.{BreaksProcedure}
+use Rattle.bound_actions.specs.declared.property_targets.Before.{Before}
 
 -- ---- properties that are assigned to
 
@@ -126,28 +131,29 @@ lets_bare sets env w p front all place d r e is g a pushed h =
     }
 
 -- without the arguments that it needs
-none_written : (env : Env) (place : Place) (front : List project.Parameter) (p : PropertyLet) (base : Option bound.Expr) (value : bound.Expr) (kind : ActionKind) (d e : Drafted) → base ≡ None → takes front [] ≡ false → RefusesNone p.receiver place d e kind
-    → d.pieces ≡ an_expr value ∷ [] → ActionIs kind (let_with env place p.is_itself base front p.procedure (declared_view p.of) [] value) e.tables e.pieces
-none_written env place front p base value kind d e none lacks h alone =
+none_written : (env : Env) (place : Place) (front : List project.Parameter) (p : PropertyLet) (base : Option bound.Expr) (value : bound.Expr) (kind : ActionKind) (d e : Drafted) → takes front [] ≡ false → BreaksProcedure p.receiver 25 place d e kind
+    → IsReceiver p.receiver base → ReceiverStands p.receiver base d.pieces (an_expr value ∷ []) → ActionIs kind (let_with env place p.is_itself base front p.procedure (declared_view p.of) [] value) e.tables e.pieces
+none_written env place front p base value kind d e lacks h received there =
     let of = declared_view p.of in
-    let broken : Option Exprs → Option Action = λ (o : Option Exprs). option_map (λ (es : Exprs). broken_target 25 place value (behind_base None es)) o in
+    let broken : Option Exprs → Option Action = λ (o : Option Exprs). option_map (λ (es : Exprs). broken_target 25 place value (behind_base base es)) o in
     record {
-      made = broken_target 25 place value no_exprs;
-      is = ap (λ (o : Option bound.Expr). let_with env place p.is_itself o front p.procedure of [] value) none
-          ∙ ap (λ (o : Option bound.Args). or_else (option_map (λ (args : bound.Args). property_given p.is_itself None p.procedure args value of) o) (broken (not_taken env front []))) (refused (argument_of env) front [] lacks)
+      made = broken_target 25 place value (behind_base base no_exprs);
+      is = ap (λ (o : Option bound.Args). or_else (option_map (λ (args : bound.Args). property_given p.is_itself base p.procedure args value of) o) (broken (not_taken env front []))) (refused (argument_of env) front [] lacks)
           ∙ ap (λ (b : Bool). broken (if b then None else Some no_exprs)) lacks;
-      fits = h.does value alone;
+      fits = h.does value base received there;
     }
 
 pub lets_refused : (sets : Bool) (env : Env) (w : Writer) (p : PropertyLet) (front : List Parameter) (place : Place) (d e : Drafted) (kind : ActionKind) → IsWriter (part_for sets) env.scope w → GivesProperty env sets w p front
-    → takes (map parameter_view front) [] ≡ false → RefusesNone p.receiver place d e kind → Lets sets env w.property place [] d e kind
+    → takes (map parameter_view front) [] ≡ false → BreaksProcedure p.receiver 25 place d e kind → Lets sets env w.property place [] d e kind
 lets_refused sets env w p front place d e kind is g lacks h = record {
   grown = h.grown;
   named = h.named;
   stands = λ y value s.
       let below = an_expr value ∷ [] in
-      let m = module_alone w.property.receiver s.base d.pieces below (sym g.receiver_is ∙ h.of_module) s.received s.pushed in
-      let_stands sets env w p front [] kind e.tables e.pieces is g y place value d.pieces below s (none_written env place (map parameter_view front) p s.base value kind d e m.0 lacks h m.1);
+      let R : Receiver → Type 0 = λ (q : Receiver). IsReceiver q s.base in
+      let S : Receiver → Type 0 = λ (q : Receiver). ReceiverStands q s.base d.pieces below in
+      let_stands sets env w p front [] kind e.tables e.pieces is g y place value d.pieces below s
+      (none_written env place (map parameter_view front) p s.base value kind d e lacks h (subst R (sym g.receiver_is) s.received) (subst S (sym g.receiver_is) s.pushed));
 }
 
 -- with arguments that it takes, behind its object
@@ -216,49 +222,46 @@ assigns_bare env may place x w d f e kind bare target l is h =
           record { made = m.made; is = bare_assigned env place value bare target ∙ m.is; fits = m.fits };
     }
 
-pub assigns_split : (env : Env) (may : Option Bool) (split : Split) (all : List ExpressionNode) (x : Tree) (y : Term) (w : Writer) (d f g e : Drafted) (kind : ActionKind) → SplitAt split all → LeavesAlone env split.target.now d f x → CalleeIs env x f g y
-    → is_sub (callee env (tree_in split.target.now) (term_of env (tree_in split.target.now))) ≡ false → WriterOf part.Let env.scope y w → LetsOn false env w.property x.place split.arguments.now g e kind → AssignsTo env may (tree_in all) d e kind true
-assigns_split env may split all x y w d f g e kind at l c no_sub is h =
-    let base = tree_in split.target.now in
-    let items = nodes.tree base ∷ [] in
-    let args = args_on items split.arguments.now in
-    let m = h.lets items in
-    let P : Expr → Type 0 = λ t. AssignsTo env may t d e kind true in
-    let z = callee env base (term_of env base) in
-    let s = property_stands env g.tables y w.property z f.pieces d.pieces is.is (c.stands base f.pieces d.pieces l.leaves.stands) in
-    let same : target_before env base ≡ z = item_itself env (place_told base) z s.base (space_view w.property.space.now) s.number (written_view w.property.written) s.is in
-    let taken : takes_value env (target_before env base) ≡ true = ap (λ q. takes_value env q) same ∙ has_writer env w z f.pieces d.pieces is.writer s in
-    subst P (sym (index_is split all at l.alone h.framed)) (record {
-      grown = grown_twice d f e l.leaves.grown (grown_twice f g e c.grown m.grown);
-      named = m.named;
-      takes = split_given env base at.left at.right args taken;
-      stands = λ value goes alone.
-          let S : List Piece → Type 0 = λ (ps : List Piece). PropertyStands env w.property z ps (an_expr value ∷ []) in
-          let B : List Piece → Type 0 = λ (ps : List Piece). PropertyStands env w.property z f.pieces ps in
-          let A : Place → Type 0 = λ (p : Place). ActionIs kind (assigned env p value (givens env args) z) e.tables e.pieces in
-          let done = subst A l.leaves.stands.place_is (m.stands z value (subst S (sym c.pieces) (subst B alone s))) in
-          let target = ap (λ (b : Bool). b || is_param_array env (index base at.left args at.right)) no_sub in
-          record {
-            made = done.made;
-            is = split_assigned env base at.left at.right args value target taken ∙ ap (λ q. assigned env (place_told base) value (givens env args) q) same ∙ done.is;
-            fits = done.fits;
-          };
-    })
+pub assigns_let : (env : Env) (may : Option Bool) (x : Before) (split : Split) (w : Writer) (d e : Drafted) (kind : ActionKind) → WriterOf part.Let env.scope x.term w → LetsOn false env w.property x.tree.place split.arguments.now d e kind
+    → AssignsBehind env may x split d e kind true
+assigns_let env may x split w d e kind is h =
+    let ns = split.arguments.now in
+    record {
+      grown = (h.lets []).grown;
+      named = (h.lets []).named;
+      stands = λ base left right below closed b.
+          let items = nodes.tree base ∷ [] in
+          let args = args_on items ns in
+          let gs = givens env args in
+          let p = place_told base in
+          let z = callee env base (term_of env base) in
+          let s = property_stands env d.tables x.term w.property z d.pieces below is.is b.called in
+          let same : target_before env base gs ≡ z = b.kept items ∙ item_itself env p z s.base (space_view w.property.space.now) s.number (written_view w.property.written) s.is in
+          let taken : takes_value env (target_before env base gs) ≡ true = ap (λ (q : plain.Term). takes_value env q) same ∙ has_writer env w z d.pieces below is.writer s in
+          let W : Expr → Type 0 = λ (t : Expr). AssignsWhole env may t kind true e.tables e.pieces below in
+          subst W (sym (whole_framed base ns split.closed.now left right closed h.framed)) (record {
+            takes = split_given env base left right args taken;
+            does = λ value goes alone.
+                let S : List Piece → Type 0 = λ (ps : List Piece). PropertyStands env w.property z d.pieces ps in
+                let A : Place → Type 0 = λ (q : Place). ActionIs kind (assigned env q value gs z) e.tables e.pieces in
+                let done = subst A b.there.place_is ((h.lets items).stands z value (subst S alone s)) in
+                record {
+                  made = done.made;
+                  is = split_assigned env base left right args value (index_target env base left right args b.no_sub) taken ∙ ap (λ (q : plain.Term). assigned env p value gs q) same ∙ done.is;
+                  fits = done.fits;
+                };
+          });
+    }
 
-pub assigns_member : (env : Env) (may : Option Bool) (split : Split) (all : List ExpressionNode) (x : Tree) (y : Term) (d f g e : Drafted) (kind : ActionKind) → SplitAt split all → LeavesAlone env split.target.now d f x → CalleeIs env x f g y
-    → AssignsItem env may x.place y split.arguments.now g e kind → AssignsTo env may (tree_in all) d e kind true
-assigns_member env may split all x y d f g e kind at l c a =
-    let base = tree_in split.target.now in
-    let P : Expr → Type 0 = λ t. AssignsTo env may t d e kind true in
-    let z = callee env base (term_of env base) in
-    let T : List Piece → Type 0 = λ ps. TermStands env g.tables y z ps d.pieces in
-    let m = a.stands base at.left at.right d.pieces l.leaves.stands.place_is (subst T (sym c.pieces) (c.stands base f.pieces d.pieces l.leaves.stands)) in
-    subst P (sym (all_is split all at l.alone)) (record {
-      grown = grown_twice d f e l.leaves.grown (grown_twice f g e c.grown a.grown);
-      named = a.named;
-      takes = m.given;
-      stands = m.does;
-    })
+pub assigns_member : (env : Env) (may : Option Bool) (x : Before) (split : Split) (d e : Drafted) (kind : ActionKind) → AssignsItem env may x.tree.place x.term split.arguments.now d e kind → AssignsBehind env may x split d e kind true
+assigns_member env may x split d e kind a = record {
+  grown = a.grown;
+  named = a.named;
+  stands = λ base left right below closed b.
+      let m = a.stands base left right below b.there.place_is b.called in
+      let W : Expr → Type 0 = λ (t : Expr). AssignsWhole env may t kind true e.tables e.pieces below in
+      subst W (sym (whole_closed base split.arguments.now split.closed.now left right closed)) (record { takes = m.given; does = m.does });
+}
 
 -- what has no Let and is no member takes no value with arguments: a property
 property_untaken : (env : Env) (p : Property) (z : plain.Term) (ps below : List Piece) → Unwritten part.Let env.scope (Some p) → PropertyStands env p z ps below → takes_value env z ≡ false
@@ -266,7 +269,7 @@ property_untaken env p z ps below n s = ap (λ (y : plain.Term). takes_value env
 
 -- and any other term
 term_untaken : (env : Env) (t : Tables) (x : Term) (z : plain.Term) (ps below : List Piece) → is_member x ≡ false → NoWriter part.Let env.scope x → TermStands env t x z ps below → takes_value env z ≡ false
-term_untaken env t (term.Place kind of bounded lends makes) z ps below i n h = ap (λ (y : plain.Term). takes_value env y) h.is
+term_untaken env t (term.Place kind of bounds lends makes) z ps below i n h = ap (λ (y : plain.Term). takes_value env y) h.is
 term_untaken env t (term.Value e) z ps below i n h = ap (λ (y : plain.Term). takes_value env y) h.is
 term_untaken env t (term.Routine r) z ps below i n h = property_untaken env (record { receiver = r.receiver; space = r.space; written = r.written }) z ps below n (property_of env r z ps below h)
 term_untaken env t (term.Property p) z ps below i n h = property_untaken env p z ps below n h.property
@@ -306,44 +309,47 @@ pub given_late : (has : Bool) (t : Tables) (x : Term) (v : Ending) → IsLateVal
 given_late has t x v l = λ env place z ps below known kept h.
     kept_late (lacks_item x) true env place z kept (λ p. refl) (λ q. late_value_indexed has t x v l env place z ps below known h)
 
-pub assigns_indexed : (has : Bool) (env : Env) (may : Option Bool) → has_class env.scope.spaces ≡ has → (split : Split) (all : List ExpressionNode) (x : Tree) (y : Term) (d f g e : Drafted) (kind : ActionKind) (given : Bool) → SplitAt split all
-    → AddsOne split.arguments.now → LeavesAlone env split.target.now d f x → CalleeIs env x f g y → is_sub (callee env (tree_in split.target.now) (term_of env (tree_in split.target.now))) ≡ false → NoWriter part.Let env.scope y
-    → KeepsItem has g.tables y → term_class y ≡ None → AssignsItemOf has env x y split.closed.now g e kind given → AssignsTo env may (tree_in all) d e kind given
-assigns_indexed has env may known split all x y d f g e kind given at one l c no_sub none item class i =
-    let base = tree_in split.target.now in
-    let z = callee env base (term_of env base) in
-    let p = place_told base in
+pub assigns_indexed : (has : Bool) (env : Env) (may : Option Bool) → has_class env.scope.spaces ≡ has → (x : Before) (split : Split) (d e : Drafted) (kind : ActionKind) (given : Bool) → AddsOne split.arguments.now → NoWriter part.Let env.scope x.term
+    → KeepsItem has d.tables x.term → term_class x.term ≡ None → AssignsItemOf has env x.tree x.term split.closed.now d e kind given → AssignsBehind env may x split d e kind given
+assigns_indexed has env may known x split d e kind given one none item class i =
+    let ns = split.arguments.now in
     let h = i.after in
     let more = i.more in
     let a = i.assigns may in
-    let whole = continued env split.target.now split.closed.now all x more d f g h at.is l c.grown c.pieces i.continues in
-    let at_index = index_at split all at l.alone one in
-    let args = at_index.0 in
-    let tree = index base at.left args at.right in
-    let P : Expr → Type 0 = λ (t : Expr). AssignsTo env may t d e kind given in
-    let L : Expr → Type 0 = λ (t : Expr). Leaves env t d h more in
-    let leaves : Leaves env tree d h more = subst L at_index.1 whole in
-    let there = c.stands base f.pieces d.pieces l.leaves.stands in
-    let t = target_before env base in
-    let gs = givens env args in
-    let takes : takes_value env t ≡ false = untaken has env known g.tables p y z f.pieces d.pieces item none there in
-    let late : is_indexed_late env p t ≡ given = i.item env p z f.pieces d.pieces known (item.kept env known p z f.pieces d.pieces there) there in
-    let apart : class_of_term t ≡ None = kept_class (lacks_item y) env p z (item.kept env known p z f.pieces d.pieces there) (class_stands env g.tables y z f.pieces d.pieces there ∙ class) in
-    subst P (sym at_index.1) (record {
-      grown = grown_twice d h e leaves.grown a.grown;
+    record {
+      grown = grown_twice d h e i.continues.goes.grown a.grown;
       named = a.named;
-      takes = ap (λ (b : Bool). b || is_indexed_late env p t) takes ∙ late;
-      stands = λ value goes alone.
-          let A : List Piece → Type 0 = λ (ps : List Piece). TermStands env h.tables more.term (term_of env tree) h.pieces ps in
-          let B : Place → Type 0 = λ (q : Place). ActionIs kind (assigned env q value [] (term_of env tree)) e.tables e.pieces in
-          let m = subst B leaves.stands.place_is (a.stands env known leaves.stands.declared_is (term_of env tree) value goes (subst A alone leaves.stands.term_is)) in
-          record {
-            made = m.made;
-            is = a_target env tree value (ap (λ (b : Bool). b || is_param_array env tree) no_sub) ∙ ap (λ (b : Bool). if b then assigned env p value gs t else index_assigned env p t gs value) takes
-                ∙ index_plain env p t gs value apart ∙ m.is;
-            fits = m.fits;
-          };
-    })
+      stands = λ base left right below closed b.
+          let args = args_of ns one in
+          let gs = givens env args in
+          let p = place_told base in
+          let z = callee env base (term_of env base) in
+          let tree = index base left args right in
+          let whole_is = whole_added base ns split.closed.now left right one closed in
+          let S : Expr → Type 0 = λ (t : Expr). TreeStands env h.tables more t h.pieces below in
+          let there = subst S whole_is (tree_behind env x.tree split.closed.now d h more i.continues base below b.there) in
+          let t = target_before env base gs in
+          let same = kept_added env base ns one b.kept in
+          let kept = item.kept env known p z d.pieces below b.called in
+          let takes : takes_value env t ≡ false = ap (λ (q : plain.Term). takes_value env q) same ∙ untaken has env known d.tables p x.term z d.pieces below item none b.called in
+          let late : is_indexed_late env p t ≡ given = ap (λ (q : plain.Term). is_indexed_late env p q) same ∙ i.item env p z d.pieces below known kept b.called in
+          let apart : class_of_term t ≡ None = ap class_of_term same ∙ kept_class (lacks_item x.term) env p z kept (class_stands env d.tables x.term z d.pieces below b.called ∙ class) in
+          let W : Expr → Type 0 = λ (t : Expr). AssignsWhole env may t kind given e.tables e.pieces below in
+          subst W (sym whole_is) (record {
+            takes = ap (λ (b : Bool). b || is_indexed_late env p t) takes ∙ late;
+            does = λ value goes alone.
+                let A : List Piece → Type 0 = λ (ps : List Piece). TermStands env h.tables more.term (term_of env tree) h.pieces ps in
+                let B : Place → Type 0 = λ (q : Place). ActionIs kind (assigned env q value [] (term_of env tree)) e.tables e.pieces in
+                let m = subst B there.place_is (a.stands env known there.declared_is (term_of env tree) value goes (subst A alone there.term_is)) in
+                let indexed_is : indexed env p t gs ≡ term_of env tree = indexed_whole env base left right args same in
+                record {
+                  made = m.made;
+                  is = a_target env tree value (index_target env base left right args b.no_sub) ∙ ap (λ (b : Bool). if b then assigned env p value gs t else index_assigned env p t gs value) takes
+                      ∙ index_plain env p t gs value apart ∙ ap (λ (q : plain.Term). assigned env p value [] q) indexed_is ∙ m.is;
+                  fits = m.fits;
+                };
+          });
+    }
 
 -- what arguments lead to in a value, as the run says
 pub item_action : (t : Tables) (make : Lvalue → Exprs → bound.Expr → Action) (place : Lvalue) (value : bound.Expr) (count : ℕ) (es : List bound.Expr) (ps : List Piece) → count ≡ length es → ps ≡ above (map an_expr es) (a_place place ∷ an_expr value ∷ [])
@@ -352,37 +358,41 @@ item_action t make place value count es ps counted top =
     ap (λ (n : ℕ). element_found make (exprs_off n ps no_exprs)) counted ∙ ap (λ (st : List Piece). element_found make (exprs_off (length es) st no_exprs)) top
     ∙ ap (λ o. element_found make o) (exprs_are es (a_place place ∷ an_expr value ∷ []))
 
-pub assigns_led : (has : Bool) (env : Env) (may : Option Bool) → has_class env.scope.spaces ≡ has → (split : Split) (all : List ExpressionNode) (x : Tree) (y : Term) (v : Ending) (d f g e : Drafted) (numbers : ℕ) → SplitAt split all
-    → LeavesAlone env split.target.now d f x → CalleeIs env x f g y → is_sub (callee env (tree_in split.target.now) (term_of env (tree_in split.target.now))) ≡ false → NoWriter part.Let env.scope y → KeepsItem has g.tables y → term_class y ≡ None
-    → IsLateValue has g.tables y v → LeadsFrom env v x.place split.arguments.now g e numbers → AssignsTo env may (tree_in all) d e (action.AssignElement numbers) true
-assigns_led has env may known split all x y v d f g e numbers at l c no_sub none item class late led =
-    let base = tree_in split.target.now in
-    let z = callee env base (term_of env base) in
-    let p = place_told base in
-    let t = target_before env base in
-    let there = c.stands base f.pieces d.pieces l.leaves.stands in
-    let takes : takes_value env t ≡ false = untaken has env known g.tables p y z f.pieces d.pieces item none there in
-    let is_late : is_indexed_late env p t ≡ true = given_late has g.tables y v late env p z f.pieces d.pieces known (item.kept env known p z f.pieces d.pieces there) there in
-    let apart : class_of_term t ≡ None = kept_class (lacks_item y) env p z (item.kept env known p z f.pieces d.pieces there) (class_stands env g.tables y z f.pieces d.pieces there ∙ class) in
-    let P : Expr → Type 0 = λ (q : Expr). AssignsTo env may q d e (action.AssignElement numbers) true in
-    let Y : Term → Type 0 = λ (q : Term). TermStands env g.tables q z g.pieces d.pieces in
-    let F : List Piece → Type 0 = λ (ps : List Piece). TermStands env g.tables y z ps d.pieces in
-    let m = led.stands base at.left at.right d.pieces l.leaves.stands.place_is (subst Y late.is (subst F (sym c.pieces) there)) in
-    let tree = index base at.left m.args at.right in
-    let gs = givens env m.args in
-    subst P (sym (all_is split all at l.alone)) (subst P (sym m.whole_is) (record {
-      grown = grown_twice d f e l.leaves.grown (grown_twice f g e c.grown led.grown);
+pub assigns_led : (has : Bool) (env : Env) (may : Option Bool) → has_class env.scope.spaces ≡ has → (x : Before) (split : Split) (v : Ending) (d e : Drafted) (numbers : ℕ) → AddsOne split.arguments.now → NoWriter part.Let env.scope x.term → KeepsItem has d.tables x.term
+    → term_class x.term ≡ None → IsLateValue has d.tables x.term v → LeadsFrom env v x.tree.place split.arguments.now d e numbers → AssignsBehind env may x split d e (action.AssignElement numbers) true
+assigns_led has env may known x split v d e numbers one none item class late led =
+    let ns = split.arguments.now in
+    record {
+      grown = led.grown;
       named = tt;
-      takes = ap (λ (b : Bool). b || is_indexed_late env p t) takes ∙ is_late;
-      stands = λ value goes alone.
-          let made = assign_element (value_place m.value) (exprs_of m.numbers) value in
-          let C : Term → Type 0 = λ (q : Term). term_class q ≡ None in
-          let q = subst Y late.is (subst F (sym c.pieces) there) in
-          let other = kept_led (lacks_item y) env p z q.made (declared_view v.of) (item.kept env known p z f.pieces d.pieces there) q.is (subst C late.is class) gs m.value (exprs_of m.numbers) type.variant m.indexed_is in
-          record {
-            made = made;
-            is = a_target env tree value (ap (λ (b : Bool). b || is_param_array env tree) no_sub) ∙ ap (λ (b : Bool). if b then assigned env p value gs t else index_assigned env p t gs value) takes
-                ∙ index_plain env p t gs value apart ∙ ap (λ (q : plain.Term). assigned env p value [] q) m.indexed_is ∙ ap (λ (b : Bool). if b then None else Some made) other;
-            fits = item_action e.tables (λ q es w. assign_element q es w) (value_place m.value) value numbers m.numbers e.pieces m.count_is (m.on_top ∙ ap (λ (ps : List Piece). above (map an_expr m.numbers) (a_place (value_place m.value) ∷ ps)) alone);
-          };
-    }))
+      stands = λ base left right below closed b.
+          let z = callee env base (term_of env base) in
+          let p = place_told base in
+          let kept = item.kept env known p z d.pieces below b.called in
+          let Y : Term → Type 0 = λ (q : Term). TermStands env d.tables q z d.pieces below in
+          let q = subst Y late.is b.called in
+          let m = led.stands base left right below b.there.place_is q in
+          let tree = index base left m.args right in
+          let gs = givens env m.args in
+          let t = target_before env base gs in
+          let whole = whole_closed base ns split.closed.now left right closed in
+          let same : t ≡ item_before env base = kept_args env base ns split.closed.now left right one m.args closed (whole ∙ m.whole_is) b.kept in
+          let takes : takes_value env t ≡ false = ap (λ (q : plain.Term). takes_value env q) same ∙ untaken has env known d.tables p x.term z d.pieces below item none b.called in
+          let is_late : is_indexed_late env p t ≡ true = ap (λ (q : plain.Term). is_indexed_late env p q) same ∙ given_late has d.tables x.term v late env p z d.pieces below known kept b.called in
+          let apart : class_of_term t ≡ None = ap class_of_term same ∙ kept_class (lacks_item x.term) env p z kept (class_stands env d.tables x.term z d.pieces below b.called ∙ class) in
+          let indexed_is : indexed env p t gs ≡ a_value (late_item m.value (exprs_of m.numbers)) type.variant = ap (λ (y : plain.Term). indexed env p y gs) same ∙ m.indexed_is in
+          let W : Expr → Type 0 = λ (t : Expr). AssignsWhole env may t (action.AssignElement numbers) true e.tables e.pieces below in
+          subst W (sym (whole ∙ m.whole_is)) (record {
+            takes = ap (λ (b : Bool). b || is_indexed_late env p t) takes ∙ is_late;
+            does = λ value goes alone.
+                let made = assign_element (value_place m.value) (exprs_of m.numbers) value in
+                let C : Term → Type 0 = λ (q : Term). term_class q ≡ None in
+                let other = kept_led (lacks_item x.term) env p z q.made (declared_view v.of) kept q.is (subst C late.is class) gs m.value (exprs_of m.numbers) type.variant m.indexed_is in
+                record {
+                  made = made;
+                  is = a_target env tree value (index_target env base left right m.args b.no_sub) ∙ ap (λ (b : Bool). if b then assigned env p value gs t else index_assigned env p t gs value) takes
+                      ∙ index_plain env p t gs value apart ∙ ap (λ (q : plain.Term). assigned env p value [] q) indexed_is ∙ ap (λ (b : Bool). if b then None else Some made) other;
+                  fits = item_action e.tables (λ q es w. assign_element q es w) (value_place m.value) value numbers m.numbers e.pieces m.count_is (m.on_top ∙ ap (λ (ps : List Piece). above (map an_expr m.numbers) (a_place (value_place m.value) ∷ ps)) alone);
+                };
+          });
+    }

@@ -25,8 +25,10 @@ use Rattle.declared_names.specs.binder.specs.Classes.{has_class}
 use Rattle.bound_terms.specs.bound_accesses.specs.bound_names.specs.bound_members.specs.bound_calls.specs.bound_forms.specs.ClassDefaults.{Known, breaks, class_let, class_set, declared_in, known}
 use Rattle.bound_terms.specs.bound_accesses.specs.bound_names.specs.bound_members.specs.bound_calls.specs.bound_forms.specs.Terms.{Env, Given, a_value, expression_of, read_of}
 use Rattle.bound_terms.specs.bound_accesses.specs.bound_names.specs.bound_members.specs.bound_calls.specs.bound_forms.specs.Terms as plain
-use Rattle.bound_terms.specs.bound_accesses.specs.bound_names.specs.bound_members.specs.bound_calls.specs.bound_forms.specs.ExpressionsBound.{are_places, argument_of, callee, given_as, givens, indexed, item_of, place_told, term_of, variant_arguments}
-use Rattle.bound_terms.specs.bound_accesses.specs.bound_names.specs.bound_members.specs.bound_calls.specs.bound_forms.specs.StatementsBound.{assigned, broken_led, broken_target, class_of_term, index_assigned, is_indexed_late, is_param_array, is_sub, led_assigned, led_set, takes_value, target_before}
+use Rattle.bound_terms.specs.bound_accesses.specs.bound_names.specs.bound_members.specs.bound_calls.specs.bound_forms.specs.Operands.{are_places, argument_of, fits_bounds, given_as, place_told}
+use Rattle.bound_terms.specs.bound_accesses.specs.bound_names.specs.bound_members.specs.bound_calls.specs.bound_forms.specs.Members.{item_of}
+use Rattle.bound_terms.specs.bound_accesses.specs.bound_names.specs.bound_members.specs.bound_calls.specs.bound_forms.specs.ExpressionsBound.{callee, givens, indexed, term_of, variant_arguments}
+use Rattle.bound_terms.specs.bound_accesses.specs.bound_names.specs.bound_members.specs.bound_calls.specs.bound_forms.specs.Targets.{assigned, broken_led, broken_target, class_of_term, index_assigned, is_indexed_late, is_param_array, is_sub, led_assigned, led_set, takes_value, target_before}
 use Rattle.bound_terms.specs.bound_accesses.specs.bound_names.specs.bound_members.specs.bound_calls.specs.declared.term.Ending.{Ending}
 use Rattle.bound_terms.specs.bound_accesses.specs.bound_names.specs.bound_members.specs.bound_calls.specs.declared.term.Indexed.{Indexed}
 use Rattle.bound_terms.specs.bound_accesses.specs.bound_names.specs.bound_members.specs.bound_calls.specs.declared.term.Item.TheVariants as item
@@ -56,16 +58,19 @@ use Rattle.bound_terms.specs.bound_operands.proofs.Elements.{led_are, no_item_ho
 use Rattle.bound_terms.specs.bound_operands.proofs.ElementEnds.{so_many}
 use Rattle.bound_terms.specs.bound_operands.proofs.LedItems.{places_many}
 use Rattle.statement_terms.specs.declared.trees.Split.{Split}
-use Rattle.statement_terms.specs.Called.{ActionIs, AssignsTo, LeavesAlone, SplitAt, args_on}
+use Rattle.statement_terms.specs.Called.{ActionIs, args_on, item_before}
 use Rattle.statement_terms.specs.Heights.{AddsOne}
 use Rattle.statement_terms.specs.Members.{WritesBroken}
-use Rattle.statement_terms.specs.Setting.{SetsTo}
-use Rattle.statement_terms.proofs.Assigned.{a_target, all_is}
+use Rattle.statement_terms.proofs.Assigned.{a_target}
 use Rattle.statement_terms.proofs.NodeTrees.{behind_push}
 use Rattle.statement_terms.proofs.SetTargets.{set_there_is, split_led}
 use Rattle.bound_actions.specs.ClassItems.{BeginsAt, GivesKnown, GivesLed, LeadsOn, LedAt, RefusesLed, element_by, element_done, element_kind, led_count, led_done, led_known, term_class}
 use Rattle.bound_actions.specs.LateItems.{ReadsIndexed}
-use Rattle.bound_actions.specs.NoTargets.{IsSub}
+use Rattle.bound_actions.specs.Behind.{AssignsBehind, AssignsWhole, SetsBehind}
+use Rattle.bound_actions.specs.LateSets.{SetsIndexed}
+use Rattle.bound_actions.specs.declared.property_targets.Before.{Before}
+use Rattle.bound_actions.proofs.Behind.{index_target, kept_args, whole_closed}
+use Rattle.bound_actions.proofs.LateItems.{some_numbers}
 use Rattle.bound_actions.specs.Untaken.{ReadsUntaken}
 use Rattle.bound_actions.proofs.Assigned.{item_action, untaken}
 use Rattle.bound_actions.proofs.ClassTerms.{class_late, class_stands, index_led, item_class}
@@ -85,16 +90,9 @@ begins_led env all alike place v count e f i p = record { grown = p.grown; stand
 
 -- ---- and lead on
 
-positive : (n : ℕ) → (n ≡ 0 → ⊥) → 0 < n
-positive zero h = absurd (h refl)
-positive (suc n) h = omega arith
-
-some_numbers : (count n : ℕ) → (count ≡ 0 → ⊥) → count ≡ n → 0 < n
-some_numbers count n some is = let N : ℕ → Type 0 = λ (k : ℕ). (k ≡ 0 → ⊥) in positive n (subst N is some)
-
-place_done : (sets : Bool) (at : Lvalue) (es : Exprs) (u : Declared) (lends : Bool) (v : bound.Expr) → element_by sets (plain.a_place (element_along at es) u false lends false) v ≡ Some (element_done sets at es v)
-place_done false at es u lends v = refl
-place_done true at es u lends v = refl
+place_done : (sets : Bool) (at : Lvalue) (es : Exprs) (u : Declared) (lends makes : Bool) (v : bound.Expr) → element_by sets (plain.a_place (element_along at es) u 0 lends makes) v ≡ Some (element_done sets at es v)
+place_done false at es u lends makes v = refl
+place_done true at es u lends makes v = refl
 
 value_done : (sets : Bool) (whole : bound.Expr) (es : Exprs) (u : Declared) (v : bound.Expr) → element_by sets (a_value (late_item whole es) u) v ≡ Some (element_done sets (value_place whole) es v)
 value_done false whole es u v = refl
@@ -109,9 +107,9 @@ led_by env more e base args left right below known_of (target.PlaceLed n) is lea
     let es = exprs_of s.made in
     let p = place_told base in
     let z = callee env base (term_of env base) in
-    let T : Target → Type 0 = λ (y : Target). TargetStands env y more.of more.lends p z s.between h.0 in
+    let T : Target → Type 0 = λ (y : Target). TargetStands env y more.of more.bounds more.lends more.makes p z s.between h.0 in
     let N : Target → Type 0 = λ (y : Target). NumbersStand env y gs s.made in
-    let q : PlaceLed env n more.of more.lends p z s.between h.0 = subst T is s.target_is in
+    let q : PlaceLed env n more.of more.lends more.makes p z s.between h.0 = subst T is s.target_is in
     let numbers = subst N is s.numbers in
     let there : Some n ≡ Some known_of = leads in
     let n_is : known_of ≡ n = cc in
@@ -119,10 +117,10 @@ led_by env more e base args left right below known_of (target.PlaceLed n) is lea
     let plainly = so_many env more n gs s.made enough s.count_is numbers in
     let K : ℕ → Type 0 = λ (k : ℕ). ArePlain k gs in
     let along = led_are env gs s.made numbers (some_numbers more.count (length s.made) some s.count_is) in
-    let indexed_is : indexed env p (item_of env p z) gs ≡ plain.a_place (element_along q.at es) (declared_view more.of) false more.lends false =
+    let indexed_is : indexed env p (item_of env p z) gs ≡ plain.a_place (element_along q.at es) (declared_view more.of) 0 more.lends more.makes =
     ap (λ (y : plain.Term). indexed env p (item_of env p y) gs) q.is
-    ∙ ap (λ (y : plain.Term). indexed env p y gs) (same_place env p q.at q.whole q.bounded more.lends q.makes (no_item_host env (read_of q.makes q.at) p q.whole q.no_host))
-    ∙ place_led env p q.at q.whole q.bounded more.lends q.makes gs (declared_view more.of) es (q.leads gs plainly) along in
+    ∙ ap (λ (y : plain.Term). indexed env p y gs) (same_place env p q.at q.whole q.bounds more.lends more.makes (no_item_host env (read_of more.makes q.at) p q.whole q.no_host))
+    ∙ place_led env p q.at q.whole q.bounds more.lends more.makes gs (declared_view more.of) es (q.leads gs plainly) along in
     record {
       args = args;
       whole_is = refl;
@@ -130,7 +128,7 @@ led_by env more e base args left right below known_of (target.PlaceLed n) is lea
       at = q.at;
       numbers = s.made;
       count_is = s.count_is;
-      does = λ sets v. ap (λ (y : plain.Term). element_by sets y v) indexed_is ∙ place_done sets q.at es (declared_view more.of) more.lends v;
+      does = λ sets v. ap (λ (y : plain.Term). element_by sets y v) indexed_is ∙ place_done sets q.at es (declared_view more.of) more.lends more.makes v;
       on_top = s.on_top ∙ ap (λ (ps : List Piece). above (map an_expr s.made) ps) (q.on_top ∙ ap (λ (ps : List Piece). a_place q.at ∷ ps) h.1.1.1);
     }
 led_by env more e base args left right below known_of (target.LedAsPlace n) is leads some same h =
@@ -139,7 +137,7 @@ led_by env more e base args left right below known_of (target.LedAsPlace n) is l
     let es = exprs_of s.made in
     let p = place_told base in
     let z = callee env base (term_of env base) in
-    let T : Target → Type 0 = λ (y : Target). TargetStands env y more.of more.lends p z s.between h.0 in
+    let T : Target → Type 0 = λ (y : Target). TargetStands env y more.of more.bounds more.lends more.makes p z s.between h.0 in
     let N : Target → Type 0 = λ (y : Target). NumbersStand env y gs s.made in
     let q : LedAsPlace env n more.of p z s.between h.0 = subst T is s.target_is in
     let numbers = subst N is s.numbers in
@@ -238,7 +236,7 @@ led_given sets env all alike place x number count of ns d e kind leads g = recor
             let done = m.does value alone in
             record {
               made = done.made;
-              is = done_known sets env all number (place_told base) (target_before env base) gs value of alike (leads gs m.plain) ∙ done.is;
+              is = done_known sets env all number (place_told base) (item_before env base) gs value of alike (leads gs m.plain) ∙ done.is;
               fits = done.fits;
             };
       };
@@ -249,11 +247,11 @@ led_given sets env all alike place x number count of ns d e kind leads g = recor
 -- arguments that are numbers by their shapes are numbers
 shaped_places : (t : Tables) (ss : List Shape) (gs : List Given) → AreShaped ss gs → are_places (shapes_given ss) ≡ true → are_places gs ≡ true
 shaped_places t ss gs h p =
-    by_test (are_places gs) (sym (ap (λ (b : Bool). if b then None else Some 25) p) ∙ rule_shaped t (refuser.Value (ArrayOf element.Boolean)) ss gs h)
+    by_test (are_places gs) (fits_bounds 0 gs) (sym (ap (λ (b : Bool). if b && fits_bounds 0 (shapes_given ss) then None else Some 25) p) ∙ rule_shaped t (refuser.Value (ArrayOf element.Boolean) 0) ss gs h)
   where
-    by_test : (b : Bool) → ◌≡◌ {A = Option ℕ} None (if b then None else Some 25) → b ≡ true
-    by_test true e = refl
-    by_test false e = absurd cc
+    by_test : (b c : Bool) → ◌≡◌ {A = Option ℕ} None (if b && c then None else Some 25) → b ≡ true
+    by_test true c e = refl
+    by_test false c e = absurd cc
 
 pub refuses_led : (env : Env) (place : Place) (x : Term) (rule count long : ℕ) (ns : List ExpressionNode) (ss : List Shape) (v : Ending) (d m n f e : Drafted) (kind : ActionKind) → TakesGiven x place d m v
     → n ≡ record m { pieces = put m.tables (node_of v.kind place v.of) m.pieces } → ReadsUntaken env ns n f ss → long ≡ length ss → are_places (shapes_given ss) ≡ true → long ≡ count → WritesBroken rule long place f e kind
@@ -304,14 +302,14 @@ led_refused sets env all alike place x number count rule ns d e kind class leads
       let gs = givens env args in
       let z = callee env base (term_of env base) in
       let p = place_told base in
-      let itself : target_before env base ≡ z = item_class env p z number (class_stands env d.tables x z d.pieces below h ∙ class) in
+      let itself : item_before env base ≡ z = item_class env p z number (class_stands env d.tables x z d.pieces below h ∙ class) in
       record {
         args = args;
         whole_is = ap last_tree (behind_push items ns (node.Index left right)) ∙ ap (λ (l : List nodes.Item). last_tree (behind_node (node.Index left right) l)) (r.framed items);
         does = λ value alone.
             let H : List Piece → Type 0 = λ (ps : List Piece). TermStands env d.tables x z d.pieces ps in
             let m = r.does items z value (subst H alone h) in
-            let A : Place → Type 0 = λ (q : Place). ActionIs kind (led_done sets env number q (target_before env base) gs value) e.tables e.pieces in
+            let A : Place → Type 0 = λ (q : Place). ActionIs kind (led_done sets env number q (item_before env base) gs value) e.tables e.pieces in
             subst A at (record {
               made = broken_target rule place value (also m.object m.made);
               is = ap (λ (y : plain.Term). led_done sets env number place y gs value) itself ∙ done_broken sets env all number rule place z gs value m.object m.made alike (leads gs m.plain) m.object_is m.made_is;
@@ -322,61 +320,64 @@ led_refused sets env all alike place x number count rule ns d e kind class leads
 
 -- ---- statements
 
-pub assigns_class : (has : Bool) (env : Env) (may : Option Bool) → has_class env.scope.spaces ≡ has → (split : Split) (all : List ExpressionNode) (x : Tree) (y : Term) (number : ℕ) (d f g e : Drafted) (kind : ActionKind) → SplitAt split all
-    → LeavesAlone env split.target.now d f x → CalleeIs env x f g y → is_sub (callee env (tree_in split.target.now) (term_of env (tree_in split.target.now))) ≡ false → NoWriter part.Let env.scope y → KeepsItem has g.tables y
-    → term_class y ≡ Some number → GivesLed false env x.place y number split.arguments.now g e kind → AssignsTo env may (tree_in all) d e kind true
-assigns_class has env may known_class split all x y number d f g e kind at l c no_sub none kept class led =
-    let base = tree_in split.target.now in
-    let z = callee env base (term_of env base) in
-    let p = place_told base in
-    let t = target_before env base in
-    let there = c.stands base f.pieces d.pieces l.leaves.stands in
-    let takes : takes_value env t ≡ false = untaken has env known_class g.tables p y z f.pieces d.pieces kept none there in
-    let of_class : class_of_term z ≡ Some number = class_stands env g.tables y z f.pieces d.pieces there ∙ class in
-    let itself : t ≡ z = item_class env p z number of_class in
-    let t_class : class_of_term t ≡ Some number = ap class_of_term itself ∙ of_class in
-    let F : List Piece → Type 0 = λ (ps : List Piece). TermStands env g.tables y z ps d.pieces in
-    let m = led.stands base at.left at.right d.pieces l.leaves.stands.place_is (subst F (sym c.pieces) there) in
-    let tree = index base at.left m.args at.right in
-    let gs = givens env m.args in
-    let P : Expr → Type 0 = λ (q : Expr). AssignsTo env may q d e kind true in
-    subst P (sym (all_is split all at l.alone)) (subst P (sym m.whole_is) (record {
-      grown = grown_twice d f e l.leaves.grown (grown_twice f g e c.grown led.grown);
+pub assigns_class : (has : Bool) (env : Env) (may : Option Bool) → has_class env.scope.spaces ≡ has → (x : Before) (split : Split) (number : ℕ) (d e : Drafted) (kind : ActionKind) → AddsOne split.arguments.now → NoWriter part.Let env.scope x.term → KeepsItem has d.tables x.term
+    → term_class x.term ≡ Some number → GivesLed false env x.tree.place x.term number split.arguments.now d e kind → AssignsBehind env may x split d e kind true
+assigns_class has env may known_class x split number d e kind one none kept class led =
+    let ns = split.arguments.now in
+    record {
+      grown = led.grown;
       named = led.named;
-      takes = ap (λ (b : Bool). b || is_indexed_late env p t) takes ∙ class_late env p t number t_class;
-      stands = λ value goes alone.
-          let done = m.does value alone in
-          record {
-            made = done.made;
-            is = a_target env tree value (ap (λ (b : Bool). b || is_param_array env tree) no_sub) ∙ ap (λ (b : Bool). if b then assigned env p value gs t else index_assigned env p t gs value) takes
-                ∙ index_led env p t gs value number t_class ∙ done.is;
-            fits = done.fits;
-          };
-    }))
+      stands = λ base left right below closed b.
+          let z = callee env base (term_of env base) in
+          let p = place_told base in
+          let m = led.stands base left right below b.there.place_is b.called in
+          let tree = index base left m.args right in
+          let gs = givens env m.args in
+          let t = target_before env base gs in
+          let u = item_before env base in
+          let whole = whole_closed base ns split.closed.now left right closed in
+          let same : t ≡ u = kept_args env base ns split.closed.now left right one m.args closed (whole ∙ m.whole_is) b.kept in
+          let takes : takes_value env t ≡ false = ap (λ (q : plain.Term). takes_value env q) same ∙ untaken has env known_class d.tables p x.term z d.pieces below kept none b.called in
+          let of_class : class_of_term z ≡ Some number = class_stands env d.tables x.term z d.pieces below b.called ∙ class in
+          let t_class : class_of_term t ≡ Some number = ap class_of_term (same ∙ item_class env p z number of_class) ∙ of_class in
+          let W : Expr → Type 0 = λ (q : Expr). AssignsWhole env may q kind true e.tables e.pieces below in
+          subst W (sym (whole ∙ m.whole_is)) (record {
+            takes = ap (λ (c : Bool). c || is_indexed_late env p t) takes ∙ class_late env p t number t_class;
+            does = λ value goes alone.
+                let done = m.does value alone in
+                record {
+                  made = done.made;
+                  is = a_target env tree value (index_target env base left right m.args b.no_sub) ∙ ap (λ (c : Bool). if c then assigned env p value gs t else index_assigned env p t gs value) takes
+                      ∙ index_led env p t gs value number t_class ∙ ap (λ (q : plain.Term). led_done false env number p q gs value) same ∙ done.is;
+                  fits = done.fits;
+                };
+          });
+    }
 
-pub sets_class : (word : Place) (has : Bool) (env : Env) → has_class env.scope.spaces ≡ has → (split : Split) (all : List ExpressionNode) (x : Tree) (y : Term) (number : ℕ) (d f g e : Drafted) (kind : ActionKind) → SplitAt split all
-    → LeavesAlone env split.target.now d f x → CalleeIs env x f g y → IsSub y false → term_class y ≡ Some number → GivesLed true env x.place y number split.arguments.now g e kind → SetsTo word env (tree_in all) d e kind
-sets_class word has env known_class split all x y number d f g e kind at l c sub class led =
-    let base = tree_in split.target.now in
-    let z = callee env base (term_of env base) in
-    let p = place_told base in
-    let t = target_before env base in
-    let there = c.stands base f.pieces d.pieces l.leaves.stands in
-    let none : is_sub z ≡ false = sub env g.tables z f.pieces d.pieces there in
-    let of_class : class_of_term z ≡ Some number = class_stands env g.tables y z f.pieces d.pieces there ∙ class in
-    let t_class : class_of_term t ≡ Some number = ap class_of_term (item_class env p z number of_class) ∙ of_class in
-    let F : List Piece → Type 0 = λ (ps : List Piece). TermStands env g.tables y z ps d.pieces in
-    let m = led.stands base at.left at.right d.pieces l.leaves.stands.place_is (subst F (sym c.pieces) there) in
-    let tree = index base at.left m.args at.right in
-    let P : Expr → Type 0 = λ (q : Expr). SetsTo word env q d e kind in
-    subst P (sym (all_is split all at l.alone)) (subst P (sym m.whole_is) (record {
-      grown = grown_twice d f e l.leaves.grown (grown_twice f g e c.grown led.grown);
+pub sets_class : (word : Place) (env : Env) (x : Before) (split : Split) (number : ℕ) (d e : Drafted) (kind : ActionKind) → AddsOne split.arguments.now → term_class x.term ≡ Some number → GivesLed true env x.tree.place x.term number split.arguments.now d e kind
+    → SetsBehind env word x split d e kind
+sets_class word env x split number d e kind one class led =
+    let ns = split.arguments.now in
+    record {
+      grown = led.grown;
       named = led.named;
-      stands = λ value alone.
+      stands = λ base left right below closed b.
+          let z = callee env base (term_of env base) in
+          let p = place_told base in
+          let m = led.stands base left right below b.there.place_is b.called in
+          let tree = index base left m.args right in
+          let gs = givens env m.args in
+          let t = target_before env base gs in
+          let whole = whole_closed base ns split.closed.now left right closed in
+          let same : t ≡ item_before env base = kept_args env base ns split.closed.now left right one m.args closed (whole ∙ m.whole_is) b.kept in
+          let of_class : class_of_term z ≡ Some number = class_stands env d.tables x.term z d.pieces below b.called ∙ class in
+          let t_class : class_of_term t ≡ Some number = ap class_of_term (same ∙ item_class env p z number of_class) ∙ of_class in
+          let W : Expr → Type 0 = λ (q : Expr). SetsIndexed env word q kind e.tables e.pieces below in
+          subst W (sym (whole ∙ m.whole_is)) (λ value alone.
           let done = m.does value alone in
           record {
             made = done.made;
-            is = set_there_is word env tree value none ∙ split_led word env base at.left at.right m.args value number t_class ∙ done.is;
+            is = set_there_is word env tree value b.no_sub ∙ split_led word env base left right m.args value number t_class ∙ ap (λ (q : plain.Term). led_done true env number p q gs value) same ∙ done.is;
             fits = done.fits;
-          };
-    }))
+          });
+    }

@@ -15,8 +15,10 @@ use Rattle.declared_names.specs.binder.specs.Scopes.{Space}
 use Rattle.bound_terms.specs.bound_accesses.specs.bound_names.specs.bound_members.specs.bound_calls.specs.bound_forms.specs.ClassDefaults.{class_let, declared_in}
 use Rattle.bound_terms.specs.bound_accesses.specs.bound_names.specs.bound_members.specs.bound_calls.specs.bound_forms.specs.Terms.{Env, Given, a_place, a_value, expression_of, no_term, read_of, routine_term}
 use Rattle.bound_terms.specs.bound_accesses.specs.bound_names.specs.bound_members.specs.bound_calls.specs.bound_forms.specs.Terms as plain
-use Rattle.bound_terms.specs.bound_accesses.specs.bound_names.specs.bound_members.specs.bound_calls.specs.bound_forms.specs.ExpressionsBound.{along_of, along_type, along_value, element_of_value, if_there, indexed, indexed_type, indexed_value, is_found_late, is_of_class, item_of, may_index, numbers_of, operand_of, term_or, variant_arguments, with_type, wrong_arguments, wrong_index}
-use Rattle.bound_terms.specs.bound_accesses.specs.bound_names.specs.bound_members.specs.bound_calls.specs.bound_forms.specs.StatementsBound.{assigned, class_of_term, index_assigned, is_indexed_late, led_assigned}
+use Rattle.bound_terms.specs.bound_accesses.specs.bound_names.specs.bound_members.specs.bound_calls.specs.bound_forms.specs.Operands.{along_of, along_type, element_of_value, if_there, indexed_type, indexed_value, is_found_late, is_of_class, numbers_of, operand_of, term_or, with_type}
+use Rattle.bound_terms.specs.bound_accesses.specs.bound_names.specs.bound_members.specs.bound_calls.specs.bound_forms.specs.Members.{item_of}
+use Rattle.bound_terms.specs.bound_accesses.specs.bound_names.specs.bound_members.specs.bound_calls.specs.bound_forms.specs.ExpressionsBound.{along_value, indexed, may_index, variant_arguments, wrong_arguments, wrong_index}
+use Rattle.bound_terms.specs.bound_accesses.specs.bound_names.specs.bound_members.specs.bound_calls.specs.bound_forms.specs.Targets.{assigned, class_of_term, index_assigned, is_indexed_late, led_assigned}
 use Rattle.bound_terms.specs.bound_accesses.specs.bound_names.specs.bound_members.specs.bound_calls.specs.declared.term.Term.{Term}
 use Rattle.bound_terms.specs.bound_accesses.specs.bound_names.specs.bound_members.specs.bound_calls.specs.declared.term.Term.TheVariants as term
 use Rattle.bound_terms.specs.bound_accesses.specs.bound_names.specs.bound_members.specs.bound_calls.specs.Standing.{TermStands}
@@ -30,7 +32,7 @@ routine_class None space number w = refl
 routine_class (Some b) space number w = refl
 
 pub class_stands : (env : Env) (t : Tables) (x : Term) (z : plain.Term) (ps below : List Piece) → TermStands env t x z ps below → class_of_term z ≡ term_class x
-class_stands env t (term.Place kind of bounded lends makes) z ps below h = ap class_of_term h.is
+class_stands env t (term.Place kind of bounds lends makes) z ps below h = ap class_of_term h.is
 class_stands env t (term.Value e) z ps below h = ap class_of_term h.is
 class_stands env t (term.Routine r) z ps below h = let q = h.routine in ap class_of_term q.is ∙ routine_class q.base q.space q.number q.written
 class_stands env t (term.Property p) z ps below h = let q = h.property in ap class_of_term q.is ∙ routine_class q.base (space_view p.space.now) q.number (written_view p.written)
@@ -50,15 +52,15 @@ kept_class false env place z same n = ap class_of_term same ∙ n
 
 -- and what is of one they index as it is
 pub item_class : (env : Env) (place : Place) (z : plain.Term) (number : ℕ) → class_of_term z ≡ Some number → item_of env place z ≡ z
-item_class env place (a_place x of bounded lends makes) number h =
-    let P : Declared → Type 0 = λ (u : Declared). item_of env place (a_place x u bounded lends makes) ≡ a_place x u bounded lends makes in subst P (sym (class_is of number h)) refl
+item_class env place (a_place x of bounds lends makes) number h =
+    let P : Declared → Type 0 = λ (u : Declared). item_of env place (a_place x u bounds lends makes) ≡ a_place x u bounds lends makes in subst P (sym (class_is of number h)) refl
 item_class env place (a_value node of) number h =
     let P : Declared → Type 0 = λ (u : Declared). item_of env place (a_value node u) ≡ a_value node u in subst P (sym (class_is of number h)) refl
 item_class env place z number h = let e : ◌≡◌ {A = Option ℕ} None (Some number) = h in absurd cc
 
 -- an object comes as it is to what they lead to
 pub class_late : (env : Env) (place : Place) (z : plain.Term) (number : ℕ) → class_of_term z ≡ Some number → is_indexed_late env place z ≡ true
-class_late env place (a_place x of bounded lends makes) number h =
+class_late env place (a_place x of bounds lends makes) number h =
     ap (λ (u : Declared). is_variant u || (is_of_class u || is_found_late env (expression_of (read_of makes x) place u))) (class_is of number h)
 class_late env place (a_value node of) number h = ap (λ (u : Declared). is_variant u || (is_of_class u || is_found_late env (expression_of node place u))) (class_is of number h)
 class_late env place z number h = let e : ◌≡◌ {A = Option ℕ} None (Some number) = h in absurd cc
@@ -100,17 +102,17 @@ value_plain env place node of gs h (Some u) k =
     let e = expression_of node place of in
     rw k (there_plain (λ es. a_value (late_item e es) u) (λ es. ap not h) (along_of (along_value env) gs))
 
-wrong_plain : (env : Env) (place : Place) (rule : ℕ) (before : Exprs → Exprs) (gs : List Given) → is_led_plain (wrong_arguments env place rule before gs) ≡ true
-wrong_plain env place rule before gs = there_plain (λ es. plain.broken_value rule place (before es)) (λ es. refl) (variant_arguments env gs)
+wrong_plain : (env : Env) (place : Place) (rule : ℕ) (of : Declared) (before : Exprs → Exprs) (gs : List Given) → is_led_plain (wrong_arguments env place rule of before gs) ≡ true
+wrong_plain env place rule of before gs = there_plain (λ es. plain.broken_call rule place of (before es)) (λ es. refl) (variant_arguments env gs)
 
 test_plain : (b : Bool) (t : plain.Term) → is_led_plain t ≡ true → is_led_plain (if b then no_term else t) ≡ true
 test_plain true t h = refl
 test_plain false t h = h
 
-refused_plain : (env : Env) (place : Place) (node : bound.Node) (of : Declared) (gs : List Given) → is_of_class of ≡ false → is_led_plain (wrong_index env place node of gs) ≡ true
+refused_plain : (env : Env) (place : Place) (node : bound.Node) (of : Declared) (gs : List Given) → is_of_class of ≡ false → is_led_plain (wrong_index env place node of 0 gs) ≡ true
 refused_plain env place node (type.class number) gs h = let e : true ≡ false = h in absurd cc
 refused_plain env place node of gs h =
-    test_plain (may_index of gs) (wrong_arguments env place 25 (also (expression_of node place of)) gs) (wrong_plain env place 25 (also (expression_of node place of)) gs)
+    test_plain (may_index of 0 gs) (wrong_arguments env place 25 type.variant (also (expression_of node place of)) gs) (wrong_plain env place 25 type.variant (also (expression_of node place of)) gs)
 
 not_true : (b : Bool) → not b ≡ true → b ≡ false
 not_true true h = let e : false ≡ true = h in absurd cc
@@ -128,7 +130,7 @@ led_plain : (env : Env) (place : Place) (node : bound.Node) (of : Declared) → 
 led_plain env place node of h gs e es u is =
     let x = expression_of node place of in
     let one : is_led_plain (indexed env place (a_value node of) gs) ≡ true =
-    either_plain (indexed_value (operand_of env) (along_value env) env place node of gs) (wrong_index env place node of gs)
+    either_plain (indexed_value (operand_of env) (along_value env) env place node of gs) (wrong_index env place node of 0 gs)
     (value_plain env place node of gs h (along_type env x gs) refl) (refused_plain env place node of gs h) in
     not_true (is_of_class (bound.operand_type e)) (sym (ap is_led_plain is) ∙ one)
 

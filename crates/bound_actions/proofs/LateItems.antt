@@ -13,7 +13,8 @@ use Rattle.bound_project.specs.Lists.{above, exprs_of}
 use Rattle.bound_project.specs.Pieces.{Piece, a_place, an_expr}
 use Rattle.declared_names.specs.binder.specs.Classes.{has_class}
 use Rattle.bound_terms.specs.bound_accesses.specs.bound_names.specs.bound_members.specs.bound_calls.specs.bound_forms.specs.Terms.{Env}
-use Rattle.bound_terms.specs.bound_accesses.specs.bound_names.specs.bound_members.specs.bound_calls.specs.bound_forms.specs.ExpressionsBound.{callee, givens, place_told, term_of}
+use Rattle.bound_terms.specs.bound_accesses.specs.bound_names.specs.bound_members.specs.bound_calls.specs.bound_forms.specs.Operands.{place_told}
+use Rattle.bound_terms.specs.bound_accesses.specs.bound_names.specs.bound_members.specs.bound_calls.specs.bound_forms.specs.ExpressionsBound.{callee, givens, term_of}
 use Rattle.bound_terms.specs.bound_accesses.specs.bound_names.specs.bound_members.specs.bound_calls.specs.declared.term.Ending.{Ending}
 use Rattle.bound_terms.specs.bound_accesses.specs.bound_names.specs.bound_members.specs.bound_calls.specs.declared.term.Indexed.{Indexed}
 use Rattle.bound_terms.specs.bound_accesses.specs.bound_names.specs.bound_members.specs.bound_calls.specs.declared.term.Item.TheVariants as item
@@ -32,7 +33,8 @@ positive : (n : ℕ) → n ≢ 0 → 0 < n
 positive zero h = absurd (h refl)
 positive (suc n) h = omega arith
 
-some_numbers : (count n : ℕ) → count ≢ 0 → count ≡ n → 0 < n
+-- numbers that are some
+pub some_numbers : (count n : ℕ) → count ≢ 0 → count ≡ n → 0 < n
 some_numbers count n some is = let N : ℕ → Type 0 = λ (k : ℕ). k ≢ 0 in positive n (subst N is some)
 
 -- the arguments that were read behind a place of a value
@@ -43,7 +45,7 @@ led_at env more e base (nodes.arguments args) left right below is some h =
     let s : IndexedStands env more base args e.pieces h.0 = h.1.0 in
     let gs = givens env args in
     let es = exprs_of s.made in
-    let T : Target → Type 0 = λ (z : Target). TargetStands env z more.of more.lends (place_told base) (callee env base (term_of env base)) s.between h.0 in
+    let T : Target → Type 0 = λ (z : Target). TargetStands env z more.of more.bounds more.lends more.makes (place_told base) (callee env base (term_of env base)) s.between h.0 in
     let N : Target → Type 0 = λ (z : Target). NumbersStand env z gs s.made in
     let q = subst T is s.target_is in
     record {

@@ -1,3 +1,4 @@
+pub mod Behind
 pub mod Called
 pub mod Assigned
 pub mod Letting

@@ -1,5 +1,5 @@
 -- What can't be assigned to: a Sub, and a ParamArray.
-use Rattle.std.proofs.Common.{◌≡◌, ℕ, Bor, Bool, true, false, ◌&&◌, not, List, Option, Some, None, option_map, if◌then◌else◌, refl, sym, ap, subst, ◌∙◌}
+use Rattle.std.proofs.Common.{◌≡◌, ℕ, Bor, Bool, true, false, ◌&&◌, not, length, ◌==◌, List, [], ◌∷◌, Option, Some, None, option_map, if◌then◌else◌, refl, sym, ap, subst, ◌∙◌}
 use Rattle.std.specs.Prelude.{◌||◌}
 use Rattle.std.proofs.Math.Bool.{or-false}
 use Rattle.std.proofs.lemmas.Bool.{and_right}
@@ -12,17 +12,18 @@ use Rattle.vba_expression.specs.Tree.{Expr, index, name}
 use Rattle.vba_expression.specs.Reader.{name_in}
 use Rattle.vba_expression.specs.Nodes.{tree_in}
 use Rattle.vba_expression.specs.declared.node.ExpressionNode.{ExpressionNode}
+use Rattle.bound_project.specs.declared.declared_type.DeclaredType.{DeclaredType}
 use Rattle.bound_project.specs.declared.statement.ActionKind.{ActionKind}
 use Rattle.bound_project.specs.Bodies.{action_of}
 use Rattle.bound_project.specs.Drafts.{Drafted}
 use Rattle.bound_project.specs.Expressions.{no_exprs}
 use Rattle.bound_project.specs.Expressions as bound
-use Rattle.bound_project.specs.Pieces.{Piece, Tables}
+use Rattle.bound_project.specs.Pieces.{Piece, Tables, an_expr}
 use Rattle.declared_names.specs.binder.specs.Declarations.{Own, Written, a_parameter}
 use Rattle.declared_names.specs.binder.specs.Declarations as declared
 use Rattle.declared_names.specs.binder.specs.Scopes.{Meant, Scope, Space, declares, of_procedure, plainly}
 use Rattle.declared_names.specs.binder.specs.Scopes as scopes
-use Rattle.declared_names.specs.binder.specs.Signatures.{is_get, is_property, procedure_with, reader}
+use Rattle.declared_names.specs.binder.specs.Signatures.{call_type, is_get, is_property, procedure_with, reader}
 use Rattle.declared_names.specs.binder.specs.Storage.{gives_value}
 use Rattle.declared_names.specs.View.{meant_view, own_view, space_view, written_view}
 use Rattle.declared_names.specs.declared.local.Local.{Local}
@@ -30,18 +31,18 @@ use Rattle.declared_names.specs.declared.local.Own.{Own as OwnHere}
 use Rattle.declared_names.specs.declared.local.Own.TheVariants as own
 use Rattle.declared_names.specs.declared.scope.Meant.{Meant as MeantHere}
 use Rattle.declared_names.specs.declared.scope.Meant.TheVariants as meant
-use Rattle.bound_terms.specs.bound_accesses.specs.bound_names.specs.bound_members.specs.bound_calls.specs.bound_forms.specs.Terms.{Env, a_routine, routine_term}
+use Rattle.bound_terms.specs.bound_accesses.specs.bound_names.specs.bound_members.specs.bound_calls.specs.bound_forms.specs.Terms.{Env, Given, a_routine, routine_term}
 use Rattle.bound_terms.specs.bound_accesses.specs.bound_names.specs.bound_members.specs.bound_calls.specs.bound_forms.specs.Terms as plain
-use Rattle.bound_terms.specs.bound_accesses.specs.bound_names.specs.bound_members.specs.bound_calls.specs.bound_forms.specs.ExpressionsBound.{callee, item_of, meant_term, own_term, place_told, term_of}
-use Rattle.bound_terms.specs.bound_accesses.specs.bound_names.specs.bound_members.specs.bound_calls.specs.bound_forms.specs.StatementsBound.{broken_target, is_given_with, is_no_target, is_param_array, is_sub, is_indexed_late, takes_value, target_of_call, written_to}
+use Rattle.bound_terms.specs.bound_accesses.specs.bound_names.specs.bound_members.specs.bound_calls.specs.bound_forms.specs.Operands.{place_told}
+use Rattle.bound_terms.specs.bound_accesses.specs.bound_names.specs.bound_members.specs.bound_calls.specs.bound_forms.specs.ExpressionsBound.{callee, givens, indexes_value, meant_term, own_term, term_of}
+use Rattle.bound_terms.specs.bound_accesses.specs.bound_names.specs.bound_members.specs.bound_calls.specs.bound_forms.specs.Targets.{broken_target, is_given_with, is_no_target, is_param_array, is_sub, is_sub_kind, is_indexed_late, sub_object, property_takes, property_type, takes_value, target_of_call, value_before, written_to}
 use Rattle.bound_terms.specs.bound_accesses.specs.bound_names.specs.bound_members.specs.bound_calls.specs.declared.term.Property.{Property}
 use Rattle.bound_terms.specs.bound_accesses.specs.bound_names.specs.bound_members.specs.bound_calls.specs.declared.term.Receiver.{Receiver}
-use Rattle.bound_terms.specs.bound_accesses.specs.bound_names.specs.bound_members.specs.bound_calls.specs.declared.term.Receiver.TheVariants as receiver
 use Rattle.bound_terms.specs.bound_accesses.specs.bound_names.specs.bound_members.specs.bound_calls.specs.declared.term.Routine.{Routine}
 use Rattle.bound_terms.specs.bound_accesses.specs.bound_names.specs.bound_members.specs.bound_calls.specs.declared.term.Term.{Term}
 use Rattle.bound_terms.specs.bound_accesses.specs.bound_names.specs.bound_members.specs.bound_calls.specs.declared.term.Term.TheVariants as term
 use Rattle.bound_terms.specs.bound_accesses.specs.bound_names.specs.bound_members.specs.bound_calls.specs.declared.term.Tree.{Tree}
-use Rattle.bound_terms.specs.bound_accesses.specs.bound_names.specs.bound_members.specs.bound_calls.specs.Standing.{IsReceiver, LeafStands, ReceiverStands, TermStands, TreeStands}
+use Rattle.bound_terms.specs.bound_accesses.specs.bound_names.specs.bound_members.specs.bound_calls.specs.Standing.{LeafStands, TermStands, TreeStands}
 use Rattle.bound_terms.specs.bound_accesses.specs.bound_names.specs.bound_members.specs.bound_calls.specs.Steps.{Leaves}
 use Rattle.bound_terms.specs.bound_accesses.specs.bound_names.specs.bound_members.specs.bound_calls.proofs.Growing.{grown_twice}
 use Rattle.bound_terms.specs.bound_accesses.specs.bound_names.specs.Callee.{CalleeIs}
@@ -51,21 +52,22 @@ use Rattle.statement_terms.specs.Heights.{AddsOne}
 use Rattle.statement_terms.proofs.Assigned.{bare_given, index_at}
 use Rattle.statement_terms.proofs.SetTargets.{bare_callee}
 use Rattle.bound_actions.specs.Assigning.{IsNoTarget, TakesLet, is_member, named_list}
-use Rattle.bound_actions.specs.NoTargets.{IsProperty, IsSub, RefusesTarget, is_module_sub, is_property_term, means_list, owns_list}
-use Rattle.bound_actions.proofs.Refusing.{assigns_refused}
+use Rattle.bound_actions.specs.Behind.{TakesType}
+use Rattle.bound_actions.specs.NoTargets.{IsProperty, IsSub, NoRoutine, RefusesTarget, TypesProperty, is_property_term, means_list, owns_list}
+use Rattle.bound_actions.proofs.Behind.{term_called}
 
 -- ---- Subs and properties
 
-sub_by : (space : Space) (number : ℕ) (w : Written) (kind : ProcedureWords) → is_sub (a_routine space number (record w { kind = kind })) ≡ (not (gives_value kind) && not (is_property kind))
-sub_by space number w (words.Sub token) = refl
-sub_by space number w (words.Function token) = refl
-sub_by space number w (words.PropertyGet property_word get_word) = refl
-sub_by space number w (words.PropertyLet property_word let_word) = refl
-sub_by space number w (words.PropertySet property_word set_word) = refl
-
 -- a procedure is a Sub where it neither gives a value nor is a property
-sub_is : (space : Space) (number : ℕ) (w : Written) → is_sub (a_routine space number w) ≡ (not (gives_value w.kind) && not (is_property w.kind))
-sub_is space number w = sub_by space number w w.kind
+kind_by : (kind : ProcedureWords) → is_sub_kind kind ≡ (not (gives_value kind) && not (is_property kind))
+kind_by (words.Sub token) = refl
+kind_by (words.Function token) = refl
+kind_by (words.PropertyGet property_word get_word) = refl
+kind_by (words.PropertyLet property_word let_word) = refl
+kind_by (words.PropertySet property_word set_word) = refl
+
+pub sub_kind : (kind : ProcedureWords) → (not (gives_value kind) && not (is_property kind)) ≡ is_sub_kind kind
+sub_kind kind = sym (kind_by kind)
 
 -- what isn't read is a property
 unread_property : (s : Scope) (space : Space) (number : ℕ) (w : Written) → reader s space number w ≡ None → is_property w.kind ≡ true
@@ -75,33 +77,28 @@ unread_property s space number w h = by (is_property w.kind) refl
     by true e = e
     by false e = let found : Option (ℕ × Written) = Some (number, w) in let k : found ≡ None = sym (ap (λ (b : Bool). if b then procedure_with s is_get space w.name else Some (number, w)) e) ∙ h in absurd cc
 
--- that of an object is none
-received_sub : (r : Receiver) (base : Option bound.Expr) (space : Space) (number : ℕ) (w : Written) → IsReceiver r base → is_sub (routine_term base space number w) ≡ is_module_sub r w.kind
-received_sub receiver.Module None space number w h = sub_is space number w
-received_sub receiver.Module (Some b) space number w h = absurd h
-received_sub (receiver.Own of) None space number w h = absurd h
-received_sub (receiver.Own of) (Some b) space number w h = refl
-received_sub (receiver.Pushed of) None space number w h = absurd h
-received_sub (receiver.Pushed of) (Some b) space number w h = refl
+-- whatever it is called of
+routine_kind : (base : Option bound.Expr) (space : Space) (number : ℕ) (w : Written) → is_sub (routine_term base space number w) ≡ is_sub_kind w.kind
+routine_kind None space number w = refl
+routine_kind (Some b) space number w = refl
 
 -- and a property is none
-property_no_sub : (base : Option bound.Expr) (space : Space) (number : ℕ) (w : Written) → is_property w.kind ≡ true → is_sub (routine_term base space number w) ≡ false
-property_no_sub None space number w h = sub_is space number w ∙ and_right (not (gives_value w.kind)) (not (is_property w.kind)) (ap not h)
-property_no_sub (Some b) space number w h = refl
+property_kind : (kind : ProcedureWords) → is_property kind ≡ true → is_sub_kind kind ≡ false
+property_kind kind h = kind_by kind ∙ and_right (not (gives_value kind)) (not (is_property kind)) (ap not h)
 
-pub routine_sub : (r : Routine) (sub : Bool) → sub ≡ is_module_sub r.receiver (written_view r.written).kind → IsSub (term.Routine r) sub
+pub routine_sub : (r : Routine) (sub : Bool) → sub ≡ is_sub_kind (written_view r.written).kind → IsSub (term.Routine r) sub
 routine_sub r sub e = λ env t y ps below h.
     let s = h.routine in
-    ap is_sub s.is ∙ received_sub r.receiver s.base s.space s.number s.written s.received ∙ ap (λ (w : Written). is_module_sub r.receiver w.kind) s.written_is ∙ sym e
+    ap is_sub s.is ∙ routine_kind s.base s.space s.number s.written ∙ ap (λ (w : Written). is_sub_kind w.kind) s.written_is ∙ sym e
 
 pub other_sub : (x : Term) → ((r : Routine) → (x ≡ term.Routine r) → ⊥) → IsSub x false
-other_sub (term.Place kind of bounded lends makes) n = λ env t y ps below h. ap is_sub h.is
+other_sub (term.Place kind of bounds lends makes) n = λ env t y ps below h. ap is_sub h.is
 other_sub (term.Value e) n = λ env t y ps below h. ap is_sub h.is
 other_sub (term.Routine r) n = absurd (n r refl)
 other_sub (term.Property p) n = λ env t y ps below h.
     let s = h.property in
     let w = written_view p.written in
-    ap is_sub s.is ∙ property_no_sub s.base (space_view p.space.now) s.number w (unread_property env.scope (space_view p.space.now) s.number w h.unread)
+    ap is_sub s.is ∙ routine_kind s.base (space_view p.space.now) s.number w ∙ property_kind w.kind (unread_property env.scope (space_view p.space.now) s.number w h.unread)
 other_sub (term.Function f) n = λ env t y ps below h. ap is_sub h.0.is
 other_sub (term.HostMember m) n = λ env t y ps below h. ap is_sub h.is
 other_sub (term.SheetMember m) n = λ env t y ps below h. ap is_sub h.0
@@ -127,7 +124,7 @@ property_property p = λ env t y ps below h.
     ap is_property_term s.is ∙ property_by s.base (space_view p.space.now) s.number w ∙ unread_property env.scope (space_view p.space.now) s.number w h.unread
 
 pub other_property : (x : Term) → ((r : Routine) → (x ≡ term.Routine r) → ⊥) → ((p : Property) → (x ≡ term.Property p) → ⊥) → IsProperty x false
-other_property (term.Place kind of bounded lends makes) n o = λ env t y ps below h. ap is_property_term h.is
+other_property (term.Place kind of bounds lends makes) n o = λ env t y ps below h. ap is_property_term h.is
 other_property (term.Value e) n o = λ env t y ps below h. ap is_property_term h.is
 other_property (term.Routine r) n o = absurd (n r refl)
 other_property (term.Property p) n o = absurd (o p refl)
@@ -139,6 +136,49 @@ other_property term.ErrRaise n o = λ env t y ps below h. ap is_property_term h.
 other_property term.ErrClear n o = λ env t y ps below h. ap is_property_term h.0
 other_property term.ErrorWord n o = λ env t y ps below h. ap is_property_term h.0
 other_property term.Nothing n o = λ env t y ps below h. ap is_property_term h
+
+-- a property that is read is of the type that its Get gives
+read_type : (env : Env) (space : Space) (number : ℕ) (w : Written) (read : ℕ × Written) → reader env.scope space number w ≡ Some read → property_type env space number w ≡ call_type env.scope space read.1
+read_type env space number w read h = rw h refl
+
+pub routine_typed : (env : Env) (r : Routine) → is_property (written_view r.written).kind ≡ true → TypesProperty env (term.Routine r) (Some (r.receiver, r.of))
+routine_typed env r property = λ t y ps below h.
+    let s = h.routine in
+    record {
+      base = s.base;
+      space = s.space;
+      number = s.number;
+      written = s.written;
+      is = s.is;
+      property = ap (λ (w : Written). is_property w.kind) s.written_is ∙ property;
+      received = s.received;
+      pushed = h.pushed;
+      type_is = read_type env s.space s.number s.written s.read s.reads ∙ sym s.of_is;
+    }
+
+-- and one that isn't of the type that its Let takes
+unread_type : (env : Env) (space : Space) (number : ℕ) (w : Written) → reader env.scope space number w ≡ None → property_type env space number w ≡ property_takes env space w
+unread_type env space number w h = rw h refl
+
+pub property_typed : (env : Env) (p : Property) (of : DeclaredType) → TakesType env p of → TypesProperty env (term.Property p) (Some (p.receiver, of))
+property_typed env p of takes = λ t y ps below h.
+    let s = h.property in
+    let space = space_view p.space.now in
+    let w = written_view p.written in
+    record {
+      base = s.base;
+      space = space;
+      number = s.number;
+      written = w;
+      is = s.is;
+      property = unread_property env.scope space s.number w h.unread;
+      received = s.received;
+      pushed = s.pushed;
+      type_is = unread_type env space s.number w h.unread ∙ takes s.placed;
+    }
+
+pub typed_at : (env : Env) (x y : Term) (found : Option (Receiver × DeclaredType)) → x ≡ y → TypesProperty env y found → TypesProperty env x found
+typed_at env x y found is h = let P : Term → Type 0 = λ (z : Term). TypesProperty env z found in subst P (sym is) h
 
 -- ---- ParamArrays
 
@@ -174,54 +214,51 @@ sub_member : (y : plain.Term) → is_sub y ≡ true → is_member y ≡ false
 sub_member (plain.a_host_member e m) h = let z : false ≡ true = h in absurd cc
 sub_member y h = refl
 
--- brackets take nothing else of a Sub
-pub sub_item : (env : Env) (place : Place) (y : plain.Term) → is_sub y ≡ true → item_of env place y ≡ y
-sub_item env place (a_routine space number w) h = refl
-sub_item env place (plain.a_place x of bounded lends makes) h = let z : false ≡ true = h in absurd cc
-sub_item env place (plain.a_value node of) h = let z : false ≡ true = h in absurd cc
-sub_item env place y h = let z : false ≡ true = h in absurd cc
-
+-- the value that a Sub is given doesn't come as it is
 sub_early : (env : Env) (place : Place) (y : plain.Term) → is_sub y ≡ true → is_indexed_late env place y ≡ false
-sub_early env place (plain.a_place x of bounded lends makes) h = let z : false ≡ true = h in absurd cc
+sub_early env place (plain.a_place x of bounds lends makes) h = let z : false ≡ true = h in absurd cc
 sub_early env place (plain.a_value node of) h = let z : false ≡ true = h in absurd cc
 sub_early env place y h = refl
 
--- nothing is pushed for a Sub
-receiver_pushes : (r : Receiver) (base : Option bound.Expr) (space : Space) (number : ℕ) (w : Written) (ps below : List Piece) → IsReceiver r base → is_sub (routine_term base space number w) ≡ true → ReceiverStands r base ps below → ps ≡ below
-receiver_pushes receiver.Module None space number w ps below i s h = h
-receiver_pushes receiver.Module (Some b) space number w ps below i s h = absurd i
-receiver_pushes (receiver.Own of) None space number w ps below i s h = absurd i
-receiver_pushes (receiver.Own of) (Some b) space number w ps below i s h = h
-receiver_pushes (receiver.Pushed of) None space number w ps below i s h = absurd i
-receiver_pushes (receiver.Pushed of) (Some b) space number w ps below i s h = let z : false ≡ true = s in absurd cc
+not_get : (kind : ProcedureWords) → is_property kind ≡ false → is_get kind ≡ false
+not_get (words.Sub token) h = refl
+not_get (words.Function token) h = refl
+not_get (words.PropertyGet property_word get_word) h = let z : true ≡ false = h in absurd cc
+not_get (words.PropertyLet property_word let_word) h = refl
+not_get (words.PropertySet property_word set_word) h = refl
 
-pub sub_pushes : (env : Env) (t : Tables) (x : Term) (y : plain.Term) (ps below : List Piece) → is_sub y ≡ true → TermStands env t x y ps below → ps ≡ below
-sub_pushes env t (term.Place kind of bounded lends makes) y ps below s h = let z : false ≡ true = sym (ap is_sub h.is) ∙ s in absurd cc
-sub_pushes env t (term.Value e) y ps below s h = let z : false ≡ true = sym (ap is_sub h.is) ∙ s in absurd cc
-sub_pushes env t (term.Routine r) y ps below s h = (let k = h.routine in receiver_pushes r.receiver k.base k.space k.number k.written ps below k.received (sym (ap is_sub k.is) ∙ s) h.pushed)
-sub_pushes env t (term.Property p) y ps below s h = (let k = h.property in receiver_pushes p.receiver k.base (space_view p.space.now) k.number (written_view p.written) ps below k.received (sym (ap is_sub k.is) ∙ s) k.pushed)
-sub_pushes env t (term.Function f) y ps below s h = h.1
-sub_pushes env t (term.HostMember m) y ps below s h = let z : false ≡ true = sym (ap is_sub h.is) ∙ s in absurd cc
-sub_pushes env t (term.SheetMember m) y ps below s h = h.1
-sub_pushes env t term.Err y ps below s h = h.1
-sub_pushes env t term.ErrRaise y ps below s h = h.1
-sub_pushes env t term.ErrClear y ps below s h = h.1
-sub_pushes env t term.ErrorWord y ps below s h = h.1
-sub_pushes env t term.Nothing y ps below s h = let z : false ≡ true = sym (ap is_sub h) ∙ s in absurd cc
+not_indexing : (w : Written) (gs : List Given) → is_property w.kind ≡ false → indexes_value w gs ≡ false
+not_indexing w [] h = refl
+not_indexing w (g ∷ gs) h = ap (λ (b : Bool). b && (length w.parameters == 0)) (not_get w.kind h)
 
--- and for a name
+-- nor do they index what it gives
+read_itself : (env : Env) (space : Space) (number : ℕ) (w : Written) → is_property w.kind ≡ false → reader env.scope space number w ≡ Some (number, w)
+read_itself env space number w k = ap (λ (b : Bool). if b then procedure_with env.scope is_get space w.name else Some (number, w)) k
+
+no_property : (kind : ProcedureWords) → is_sub_kind kind ≡ true → is_property kind ≡ false
+no_property (words.Sub token) h = refl
+no_property (words.Function token) h = let z : false ≡ true = h in absurd cc
+no_property (words.PropertyGet property_word get_word) h = let z : false ≡ true = h in absurd cc
+no_property (words.PropertyLet property_word let_word) h = let z : false ≡ true = h in absurd cc
+no_property (words.PropertySet property_word set_word) h = let z : false ≡ true = h in absurd cc
+
+sub_before : (env : Env) (place : Place) (gs : List Given) (y : plain.Term) → is_sub y ≡ true → value_before env place gs y ≡ y
+sub_before env place gs (a_routine space number w) h = let k = no_property w.kind h in rw (read_itself env space number w k, not_indexing w gs k) refl
+sub_before env place gs (plain.a_method base space number w) h = let k = no_property w.kind h in rw (read_itself env space number w k, not_indexing w gs k) refl
+sub_before env place gs (plain.a_place x of bounds lends makes) h = let z : false ≡ true = h in absurd cc
+sub_before env place gs (plain.a_value node of) h = let z : false ≡ true = h in absurd cc
+sub_before env place gs (plain.a_function f text_form base) h = let z : false ≡ true = h in absurd cc
+sub_before env place gs (plain.a_host_member e m) h = let z : false ≡ true = h in absurd cc
+sub_before env place gs plain.err_object h = let z : false ≡ true = h in absurd cc
+sub_before env place gs plain.err_raise h = let z : false ≡ true = h in absurd cc
+sub_before env place gs plain.err_clear h = let z : false ≡ true = h in absurd cc
+sub_before env place gs plain.error_word h = let z : false ≡ true = h in absurd cc
+sub_before env place gs plain.no_term h = let z : false ≡ true = h in absurd cc
+
+-- nothing is pushed for a name
 named_pushes : (env : Env) (x : Option Identifier) (ps below : List Piece) → named_list env x ≡ true → LeafStands x ps below → ps ≡ below
 named_pushes env None ps below l h = let z : false ≡ true = l in absurd cc
 named_pushes env (Some x) ps below l h = h
-
-target_pushes : (env : Env) (t : Tables) (x : Tree) (e : Expr) (ps below : List Piece) → IsBare e → is_no_target env e ≡ true → TreeStands env t x e ps below → ps ≡ below
-target_pushes env t x e ps below bare none h = by (is_sub (target_of_call env e)) refl
-  where
-    by : (b : Bool) → is_sub (target_of_call env e) ≡ b → ps ≡ below
-    by true s = sub_pushes env t x.term (term_of env e) ps below (sym (ap is_sub (bare_callee env e bare)) ∙ s) h.term_is
-    by false s =
-        let l : is_param_array env e ≡ true = sym (ap (λ (b : Bool). b || is_param_array env e) s) ∙ none in
-        named_pushes env (option_map (λ name. name.now) x.name) ps below (ap (λ (o : Option Identifier). named_list env o) h.name_is ∙ sym (list_named env e) ∙ l) h.leaf
 
 -- a ParamArray is a place
 own_member : (env : Env) (x : Identifier) (number : ℕ) (l : declared.Local) (o : Own) → l.own ≡ o → owns_list o ≡ true → is_member (own_term env x number l) ≡ false
@@ -245,6 +282,38 @@ list_member : (env : Env) (e : Expr) → is_param_array env e ≡ true → is_me
 list_member env (name x) h = meant_member env x (declares plainly env.scope x) (sym (list_named env (name x)) ∙ h)
 list_member env e h = let z : false ≡ true = h in absurd cc
 
+-- which is called of nothing
+own_object : (env : Env) (x : Identifier) (number : ℕ) (l : declared.Local) (o : Own) → l.own ≡ o → owns_list o ≡ true → sub_object (own_term env x number l) ≡ no_exprs
+own_object env x number l (declared.the_result w) k h = let z : false ≡ true = h in absurd cc
+own_object env x number l (a_parameter p) k h = rw k refl
+own_object env x number l (declared.a_local v static) k h = let z : false ≡ true = h in absurd cc
+own_object env x number l (declared.a_local_constant c) k h = let z : false ≡ true = h in absurd cc
+own_object env x number l (declared.an_array clause static) k h = let z : false ≡ true = h in absurd cc
+own_object env x number l (declared.undeclared static) k h = let z : false ≡ true = h in absurd cc
+
+meant_object : (env : Env) (x : Identifier) (m : Option Meant) → means_list m ≡ true → sub_object (meant_term env x m) ≡ no_exprs
+meant_object env x None h = let z : false ≡ true = h in absurd cc
+meant_object env x (Some (of_procedure number l)) h = own_object env x number l l.own refl h
+meant_object env x (Some (scopes.of_module space number entry)) h = let z : false ≡ true = h in absurd cc
+meant_object env x (Some (scopes.a_module space)) h = let z : false ≡ true = h in absurd cc
+meant_object env x (Some scopes.the_library) h = let z : false ≡ true = h in absurd cc
+meant_object env x (Some scopes.of_host) h = let z : false ≡ true = h in absurd cc
+meant_object env x (Some scopes.of_library) h = let z : false ≡ true = h in absurd cc
+
+list_object : (env : Env) (e : Expr) → is_param_array env e ≡ true → sub_object (term_of env e) ≡ no_exprs
+list_object env (name x) h = meant_object env x (declares plainly env.scope x) (sym (list_named env (name x)) ∙ h)
+list_object env e h = let z : false ≡ true = h in absurd cc
+
+-- what is no procedure that is read was the name of a ParamArray
+target_parts : (env : Env) (t : Tables) (x : Tree) (e : Expr) (ps below : List Piece) → IsBare e → is_no_target env e ≡ true → NoRoutine x.term → TreeStands env t x e ps below → (ps ≡ below) × (sub_object (term_of env e) ≡ no_exprs)
+target_parts env t x e ps below bare none other h = by (is_sub (target_of_call env e)) refl
+  where
+    by : (b : Bool) → is_sub (target_of_call env e) ≡ b → (ps ≡ below) × (sub_object (term_of env e) ≡ no_exprs)
+    by true s = (let z : false ≡ true = sym (other_sub x.term other env t (term_of env e) ps below h.term_is) ∙ sym (ap is_sub (bare_callee env e bare)) ∙ s in absurd cc)
+    by false s =
+        let l : is_param_array env e ≡ true = sym (ap (λ (b : Bool). b || is_param_array env e) s) ∙ none in
+        (named_pushes env (option_map (λ name. name.now) x.name) ps below (ap (λ (o : Option Identifier). named_list env o) h.name_is ∙ sym (list_named env e) ∙ l) h.leaf, list_object env e l)
+
 target_member : (env : Env) (e : Expr) → IsBare e → is_no_target env e ≡ true → is_member (term_of env e) ≡ false
 target_member env e bare none = by (is_sub (target_of_call env e)) refl
   where
@@ -252,36 +321,63 @@ target_member env e bare none = by (is_sub (target_of_call env e)) refl
     by true s = sub_member (term_of env e) (sym (ap is_sub (bare_callee env e bare)) ∙ s)
     by false s = list_member env e (sym (ap (λ (b : Bool). b || is_param_array env e) s) ∙ none)
 
-pub bare_refused : (env : Env) (may : Option Bool) (place : Expr) (x : Tree) (given : Bool) (d f e : Drafted) (kind : ActionKind) → IsBare place → Leaves env place d f x → IsNoTarget env x true → TakesLet env x.term given → RefusesTarget x.place f e kind → AssignsTo env may place d e kind given
+pub bare_refused : (env : Env) (may : Option Bool) (place : Expr) (x : Tree) (given : Bool) (d f e : Drafted) (kind : ActionKind) → IsBare place → Leaves env place d f x → IsNoTarget env x true → TakesLet env x.term given → RefusesTarget x.term x.place f e kind → AssignsTo env may place d e kind given
 bare_refused env may place x given d f e kind bare l n g r =
+    let y = term_of env place in
+    let p = place_told place in
     let none : is_no_target env place ≡ true = n f.tables place f.pieces d.pieces bare l.stands in
-    let same : f.pieces ≡ d.pieces = target_pushes env f.tables x place f.pieces d.pieces bare none l.stands in
-    let takes : is_given_with env place ≡ given = bare_given env place bare ∙ g f.tables (term_of env place) f.pieces d.pieces (target_member env place bare none) l.stands.term_is in
-    assigns_refused env may place x given d f e kind l same none takes r
+    record {
+      grown = grown_twice d f e l.grown r.grown;
+      named = r.named;
+      takes = bare_given env place bare ∙ g f.tables y f.pieces d.pieces (target_member env place bare none) l.stands.term_is;
+      stands = λ value goes alone.
+          let below = an_expr value ∷ [] in
+          let T : List Piece → Type 0 = λ (ps : List Piece). TreeStands env f.tables x place f.pieces ps in
+          let there = subst T alone l.stands in
+          let F : Place → Type 0 = λ (q : Place). action_of e.tables kind e.pieces ≡ Some (broken_target 27 q value (sub_object y)) in
+          record {
+            made = broken_target 27 p value (sub_object y);
+            is = ap (λ (b : Bool). if b then Some (broken_target 27 p value (sub_object (target_of_call env place))) else written_to env place value) none
+                ∙ ap (λ (t : plain.Term). Some (broken_target 27 p value (sub_object t))) (bare_callee env place bare);
+            fits = subst F l.stands.place_is (r.does env y value there.term_is (λ other. target_parts env f.tables x place f.pieces below bare none other there));
+          };
+    }
+
+-- a Sub is one that is read
+sub_routine : (env : Env) (t : Tables) (x : Term) (y : plain.Term) (ps below qs rs : List Piece) → is_sub y ≡ true → TermStands env t x y ps below → NoRoutine x → (qs ≡ rs) × (sub_object y ≡ no_exprs)
+sub_routine env t x y ps below qs rs is h other = let z : false ≡ true = sym (other_sub x other env t y ps below h) ∙ is in absurd cc
+
+-- and what is done with it
+pub sub_done : (env : Env) (x : Term) (y : plain.Term) (place p : Place) (below : List Piece) (value : bound.Expr) (d e : Drafted) (kind : ActionKind) → RefusesTarget x place d e kind → is_sub y ≡ true → TermStands env d.tables x y d.pieces below → below ≡ an_expr value ∷ [] → place ≡ p
+    → action_of e.tables kind e.pieces ≡ Some (broken_target 27 p value (sub_object y))
+sub_done env x y place p below value d e kind r is h alone at =
+    let T : List Piece → Type 0 = λ (ps : List Piece). TermStands env d.tables x y d.pieces ps in
+    let F : Place → Type 0 = λ (q : Place). action_of e.tables kind e.pieces ≡ Some (broken_target 27 q value (sub_object y)) in
+    let there = subst T alone h in
+    subst F at (r.does env y value there (sub_routine env d.tables x y d.pieces (an_expr value ∷ []) d.pieces (an_expr value ∷ []) is there))
 
 pub split_refused : (env : Env) (may : Option Bool) (split : Split) (all : List ExpressionNode) (x : Tree) (y : Term) (given : Bool) (d f g e : Drafted) (kind : ActionKind) → SplitAt split all → AddsOne split.arguments.now → LeavesAlone env split.target.now d f x
-    → CalleeIs env x f g y → IsSub y true → TakesLet env y given → RefusesTarget x.place g e kind → AssignsTo env may (tree_in all) d e kind given
+    → CalleeIs env x f g y → IsSub y true → TakesLet env y given → RefusesTarget y x.place g e kind → AssignsTo env may (tree_in all) d e kind given
 split_refused env may split all x y given d f g e kind at one l c sub has r =
     let base = tree_in split.target.now in
     let there = index_at split all at l.alone one in
     let args = there.0 in
     let tree = index base at.left args at.right in
     let z = callee env base (term_of env base) in
-    let s = c.stands base f.pieces d.pieces l.leaves.stands in
-    let is : is_sub z ≡ true = sub env g.tables z f.pieces d.pieces s in
-    let same : g.pieces ≡ d.pieces = c.pieces ∙ sub_pushes env g.tables y z f.pieces d.pieces is s in
-    let takes : takes_value env z ≡ given = has g.tables z f.pieces d.pieces (sub_member z is) s in
+    let p = place_told base in
+    let s = term_called env split.target.now x y d f g l c in
+    let is : is_sub z ≡ true = sub env g.tables z g.pieces d.pieces s in
+    let takes : takes_value env z ≡ given = has g.tables z g.pieces d.pieces (sub_member z is) s in
     let P : Expr → Type 0 = λ (t : Expr). AssignsTo env may t d e kind given in
     subst P (sym there.1) (record {
       grown = grown_twice d f e l.leaves.grown (grown_twice f g e c.grown r.grown);
       named = r.named;
-      takes = ap (λ (q : plain.Term). takes_value env q || is_indexed_late env (place_told base) q) (sub_item env (place_told base) z is) ∙ ap (λ (b : Bool). b || is_indexed_late env (place_told base) z) takes
-          ∙ ap (λ (b : Bool). given || b) (sub_early env (place_told base) z is) ∙ or-false given;
+      takes = ap (λ (q : plain.Term). takes_value env q || is_indexed_late env p q) (sub_before env p (givens env args) z is) ∙ ap (λ (b : Bool). b || is_indexed_late env p z) takes
+          ∙ ap (λ (b : Bool). given || b) (sub_early env p z is) ∙ or-false given;
       stands = λ value goes alone.
-          let F : Place → Type 0 = λ (p : Place). action_of e.tables kind e.pieces ≡ Some (broken_target 27 p value no_exprs) in
           record {
-            made = broken_target 27 (place_told base) value no_exprs;
-            is = ap (λ (b : Bool). if b || is_param_array env tree then Some (broken_target 27 (place_told base) value no_exprs) else written_to env tree value) is;
-            fits = subst F l.leaves.stands.place_is (r.does value (same ∙ alone));
+            made = broken_target 27 p value (sub_object z);
+            is = ap (λ (b : Bool). if b || is_param_array env tree then Some (broken_target 27 p value (sub_object z)) else written_to env tree value) is;
+            fits = sub_done env y z x.place p d.pieces value g e kind r is s alone l.leaves.stands.place_is;
           };
     })

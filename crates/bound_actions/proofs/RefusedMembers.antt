@@ -17,12 +17,16 @@ use Rattle.bound_project.specs.Expressions as bound
 use Rattle.bound_project.specs.Lists.{above, exprs_of}
 use Rattle.bound_project.specs.Pieces.{Piece, an_expr}
 use Rattle.bound_project.specs.Statements.{Action}
+use Rattle.bound_project.specs.View.{declared_view}
+use Rattle.vba_values.specs.Types.{Declared}
 use Rattle.bound_project.specs.Statements as to
 use Rattle.declared_names.specs.binder.specs.Options.{from_two, or_else}
-use Rattle.bound_terms.specs.bound_accesses.specs.bound_names.specs.bound_members.specs.bound_calls.specs.bound_forms.specs.Terms.{Env, Given, a_host_member, broken_value, has_names}
+use Rattle.bound_terms.specs.bound_accesses.specs.bound_names.specs.bound_members.specs.bound_calls.specs.bound_forms.specs.Terms.{Env, Given, a_host_member, a_value, has_names}
 use Rattle.bound_terms.specs.bound_accesses.specs.bound_names.specs.bound_members.specs.bound_calls.specs.bound_forms.specs.Terms as plain
-use Rattle.bound_terms.specs.bound_accesses.specs.bound_names.specs.bound_members.specs.bound_calls.specs.bound_forms.specs.ExpressionsBound.{are_named_right, argument_of, arguments_rule, callee, early_called, givens, if_there, indexed, is_called_late, item_of, late_called, may_be_instance, member_called, member_takes, named_called, names_taken, place_told, takes_arguments, term_of, variant_arguments}
-use Rattle.bound_terms.specs.bound_accesses.specs.bound_names.specs.bound_members.specs.bound_calls.specs.bound_forms.specs.StatementsBound.{arguments_written, broken_target, fits_written, has_written_default, is_written_member, late_written, member_written, named_written, target_before, unwritten_rule, written_rule}
+use Rattle.bound_terms.specs.bound_accesses.specs.bound_names.specs.bound_members.specs.bound_calls.specs.bound_forms.specs.Operands.{argument_of, if_there, may_be_instance, place_told}
+use Rattle.bound_terms.specs.bound_accesses.specs.bound_names.specs.bound_members.specs.bound_calls.specs.bound_forms.specs.Members.{item_of}
+use Rattle.bound_terms.specs.bound_accesses.specs.bound_names.specs.bound_members.specs.bound_calls.specs.bound_forms.specs.ExpressionsBound.{are_named_right, arguments_rule, callee, early_called, givens, indexed, is_called_late, late_called, member_called, member_takes, named_called, names_taken, takes_arguments, term_of, variant_arguments}
+use Rattle.bound_terms.specs.bound_accesses.specs.bound_names.specs.bound_members.specs.bound_calls.specs.bound_forms.specs.Targets.{arguments_written, broken_target, fits_written, has_written_default, is_written_member, late_written, member_written, named_written, target_before, unwritten_rule, written_rule}
 use Rattle.bound_terms.specs.bound_accesses.specs.bound_names.specs.bound_members.specs.bound_calls.specs.declared.term.HostMember.{HostMember}
 use Rattle.bound_terms.specs.bound_accesses.specs.bound_names.specs.bound_members.specs.bound_calls.specs.declared.term.Refuser.TheVariants as refuser
 use Rattle.bound_terms.specs.bound_accesses.specs.bound_names.specs.bound_members.specs.bound_calls.specs.declared.term.Shape.{Shape}
@@ -33,12 +37,13 @@ use Rattle.bound_terms.specs.bound_accesses.specs.bound_names.specs.bound_member
 use Rattle.bound_terms.specs.bound_accesses.specs.bound_names.specs.bound_members.specs.bound_calls.specs.Taking.{broken_ending}
 use Rattle.bound_terms.specs.bound_accesses.specs.bound_names.specs.bound_members.specs.bound_calls.proofs.Growing.{grown_twice}
 use Rattle.bound_terms.specs.bound_accesses.specs.bound_names.specs.bound_members.specs.bound_calls.proofs.Growing as growing
+use Rattle.bound_terms.specs.bound_accesses.specs.bound_names.specs.bound_members.specs.bound_calls.proofs.Lacking.{told_view}
 use Rattle.bound_terms.specs.bound_accesses.specs.bound_names.specs.bound_members.specs.bound_calls.proofs.Shaping.{member_same, rule_shaped, shapes_long}
 use Rattle.bound_terms.specs.bound_accesses.specs.bound_names.specs.bound_members.proofs.Naming.{given_listed, given_long}
 use Rattle.bound_terms.specs.bound_accesses.specs.Items.{MakesItem}
 use Rattle.bound_terms.specs.bound_operands.proofs.Untaking.{marked_ends}
 use Rattle.bound_terms.proofs.Refused.{member_refused}
-use Rattle.statement_terms.specs.Called.{args_on}
+use Rattle.statement_terms.specs.Called.{args_on, item_before}
 use Rattle.statement_terms.specs.Members.{AssignsItem, GivesMember, WritesBroken}
 use Rattle.statement_terms.specs.Setting.{SetsTerm}
 use Rattle.statement_terms.proofs.NodeTrees.{behind_push}
@@ -167,7 +172,7 @@ written_refused env place m rule count ns ss d f e kind there early r breaks cou
 }
 
 pub set_refused : (env : Env) (word place : Place) (m : HostMember) (rule count values : ℕ) (ns : List ExpressionNode) (ss : List Shape) (d f e : Drafted) (kind : ActionKind) → m.name < length d.tables.constants → ReadsUntaken env ns d f ss
-    → Some rule ≡ refused_rule f.tables (refuser.Member m) (shapes_given ss) → count ≡ length ss → values ≡ count + 1 → SetsTerm word place (term.Value (broken_ending rule place values)) f e kind → RefusesSet env word place m ns d e kind
+    → Some rule ≡ refused_rule f.tables (refuser.Member m) (shapes_given ss) → count ≡ length ss → values ≡ count + 1 → SetsTerm word place (term.Value (broken_ending rule place m.of values)) f e kind → RefusesSet env word place m ns d e kind
 set_refused env word place m rule count values ns ss d f e kind there r breaks counted more k =
     record {
       grown = grown_twice d f e r.grown k.grown;
@@ -184,13 +189,13 @@ set_refused env word place m rule count values ns ss d f e kind there r breaks c
           let given : variant_arguments env gs ≡ Some (exprs_of p.made) = given_listed (argument_of env type.variant) gs p.made p.values in
           let long : values ≡ length all = omega (arith, more, counted, length-map ss shape_given, shapes_long ss gs p.shaped, given_long (argument_of env type.variant) gs p.made p.values) in
           let top : f.pieces ≡ above (map an_expr all) (an_expr value ∷ []) = p.on_top ∙ ap (λ (ps : List Piece). above (map an_expr p.made) ps) on_top in
-          let is : indexed env place (a_host_member object M) gs ≡ broken_value rule place (exprs_of all) =
+          let is : indexed env place (a_host_member object M) gs ≡ plain.broken_call rule place (declared_view m.of) (exprs_of all) =
           ap (λ (x : plain.HostMember). indexed env place (a_host_member object x) gs) same ∙ member_refused env place object N gs rule broken
-          ∙ ap (λ (o : Option Exprs). if_there (option_map (λ es. broken_value rule place (also object es)) o)) given in
-          let t : ValueStands f.tables (broken_ending rule place values) (indexed env place (a_host_member object M) gs) f.pieces (an_expr value ∷ []) = record {
+          ∙ ap (λ (o : Option Exprs). if_there (option_map (λ es. plain.broken_call rule place (declared_view m.of) (also object es)) o)) given in
+          let t : ValueStands f.tables (broken_ending rule place m.of values) (indexed env place (a_host_member object M) gs) f.pieces (an_expr value ∷ []) = record {
             made = marked (record { rule = rule; place = place }) (exprs_of all);
-            is = is;
-            ends = marked_ends f.tables rule values place all f.pieces (an_expr value ∷ []) long top;
+            is = is ∙ ap (λ (u : Declared). a_value (marked (record { rule = rule; place = place }) (exprs_of all)) u) (sym (told_view m.of));
+            ends = marked_ends f.tables rule values place m.of all f.pieces (an_expr value ∷ []) long top;
           } in
           k.stands env (indexed env place (a_host_member object M) gs) value t;
     }
@@ -206,7 +211,7 @@ item_refused env may place y m ns kind d h e made r = record {
       let items = nodes.tree tree ∷ [] in
       let args = args_on items ns in
       let A : Place → Type 0 = λ (p : Place). TermStands env h.tables (term.HostMember m) (item_of env p z) h.pieces below in
-      let there : HostMemberStands h.tables m (target_before env tree) h.pieces below = subst A at (made.stands z below k) in
+      let there : HostMemberStands h.tables m (item_before env tree) h.pieces below = subst A at (made.stands z below k) in
       let M = member_is h.tables m in
       let is : index tree left args right ≡ last_tree (behind_nodes items (ns ++ node.Index left right ∷ [])) =
       sym (ap last_tree (behind_push items ns (node.Index left right)) ∙ ap (λ (l : List nodes.Item). last_tree (behind_node (node.Index left right) l)) (r.framed items)) in

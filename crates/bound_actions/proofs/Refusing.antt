@@ -4,11 +4,14 @@ use Rattle.std.specs.Prelude.{reverse}
 use Rattle.std.proofs.lemmas.List.{map-append, reverse-append, reverse-reverse}
 use Rattle.vba_base.specs.declared.place.Place.{Place}
 use Rattle.vba_values.specs.Types as type
-use Rattle.vba_expression.specs.Tree.{Args, Expr, no_args, missing, plain, named}
+use Rattle.vba_expression.specs.Tree.{Args, no_args, missing, plain, named}
 use Rattle.vba_expression.specs.Nodes as nodes
 use Rattle.vba_expression.specs.Nodes.{behind_nodes, last_arguments}
 use Rattle.vba_expression.specs.declared.node.ExpressionNode.{ExpressionNode}
 use Rattle.vba_expression.specs.declared.node.ExpressionNode.TheVariants as node
+use Rattle.bound_project.specs.declared.declared_type.DeclaredType.{DeclaredType}
+use Rattle.bound_project.specs.declared.declared_type.DeclaredType.TheVariants.{Plain}
+use Rattle.bound_project.specs.declared.declared_type.ElementType.TheVariants.{Variant}
 use Rattle.bound_project.specs.declared.node.Node.{Node}
 use Rattle.bound_project.specs.declared.statement.ActionKind.{ActionKind}
 use Rattle.bound_project.specs.declared.statement.ActionKind.TheVariants as action
@@ -23,11 +26,15 @@ use Rattle.bound_project.specs.Project.{Parameter}
 use Rattle.bound_project.specs.Statements.{Action, evaluate}
 use Rattle.bound_project.specs.Statements as to
 use Rattle.bound_project.specs.View.{declared_view}
+use Rattle.declared_names.specs.binder.specs.Declarations.{Written}
 use Rattle.declared_names.specs.binder.specs.Options.{or_else}
-use Rattle.bound_terms.specs.bound_accesses.specs.bound_names.specs.bound_members.specs.bound_calls.specs.bound_forms.specs.Terms.{Env, Given, bound_arguments, broken_rule, takes}
+use Rattle.declared_names.specs.binder.specs.Scopes.{Space}
+use Rattle.bound_terms.specs.bound_accesses.specs.bound_names.specs.bound_members.specs.bound_calls.specs.bound_forms.specs.Terms.{Env, Given, bound_arguments, broken_rule, routine_term, takes}
 use Rattle.bound_terms.specs.bound_accesses.specs.bound_names.specs.bound_members.specs.bound_calls.specs.bound_forms.specs.Terms as plain
-use Rattle.bound_terms.specs.bound_accesses.specs.bound_names.specs.bound_members.specs.bound_calls.specs.bound_forms.specs.ExpressionsBound.{argument_of, behind_base, givens, indexed, place_told, variant_arguments}
-use Rattle.bound_terms.specs.bound_accesses.specs.bound_names.specs.bound_members.specs.bound_calls.specs.bound_forms.specs.StatementsBound.{broken_target, called_term, is_given_with, is_no_target, is_sub, object_set, property_given, raise_parameters, target_of_call, untaken, written_to}
+use Rattle.bound_terms.specs.bound_accesses.specs.bound_names.specs.bound_members.specs.bound_calls.specs.bound_forms.specs.Operands.{alone, argument_of, behind_base, place_told}
+use Rattle.bound_terms.specs.bound_accesses.specs.bound_names.specs.bound_members.specs.bound_calls.specs.bound_forms.specs.ExpressionsBound.{givens, variant_arguments}
+use Rattle.bound_terms.specs.bound_accesses.specs.bound_names.specs.bound_members.specs.bound_calls.specs.bound_forms.specs.Targets.{broken_target, may_refer, no_reference, property_given, sub_object, untaken}
+use Rattle.bound_terms.specs.bound_accesses.specs.bound_names.specs.bound_members.specs.bound_calls.specs.bound_forms.specs.StatementsBound.{called_term, raise_parameters}
 use Rattle.bound_terms.specs.bound_accesses.specs.bound_names.specs.bound_members.specs.bound_calls.specs.declared.term.Ending.{Ending}
 use Rattle.bound_terms.specs.bound_accesses.specs.bound_names.specs.bound_members.specs.bound_calls.specs.declared.term.Item.{Item}
 use Rattle.bound_terms.specs.bound_accesses.specs.bound_names.specs.bound_members.specs.bound_calls.specs.declared.term.Item.TheVariants as item
@@ -35,23 +42,22 @@ use Rattle.bound_terms.specs.bound_accesses.specs.bound_names.specs.bound_member
 use Rattle.bound_terms.specs.bound_accesses.specs.bound_names.specs.bound_members.specs.bound_calls.specs.declared.term.Receiver.TheVariants as receiver
 use Rattle.bound_terms.specs.bound_accesses.specs.bound_names.specs.bound_members.specs.bound_calls.specs.declared.term.Routine.{Routine}
 use Rattle.bound_terms.specs.bound_accesses.specs.bound_names.specs.bound_members.specs.bound_calls.specs.declared.term.Shape.{Shape}
+use Rattle.bound_terms.specs.bound_accesses.specs.bound_names.specs.bound_members.specs.bound_calls.specs.declared.term.Term.{Term}
 use Rattle.bound_terms.specs.bound_accesses.specs.bound_names.specs.bound_members.specs.bound_calls.specs.declared.term.Term.TheVariants as term
-use Rattle.bound_terms.specs.bound_accesses.specs.bound_names.specs.bound_members.specs.bound_calls.specs.declared.term.Tree.{Tree}
 use Rattle.bound_terms.specs.bound_accesses.specs.bound_names.specs.bound_members.specs.bound_calls.specs.Calls.{node_of}
 use Rattle.bound_terms.specs.bound_accesses.specs.bound_names.specs.bound_members.specs.bound_calls.specs.Shapes.{AreShaped, IsShaped, shapes_given, with_shapes}
-use Rattle.bound_terms.specs.bound_accesses.specs.bound_names.specs.bound_members.specs.bound_calls.specs.Standing.{AllGiven, Base, GivenIs, IsReceiver, ReceiverStands, RoutineStands, Stands, behind_values}
-use Rattle.bound_terms.specs.bound_accesses.specs.bound_names.specs.bound_members.specs.bound_calls.specs.Steps.{Goes, Leaves}
-use Rattle.bound_terms.specs.bound_accesses.specs.bound_names.specs.bound_members.specs.bound_calls.specs.Taking.{CallsAt, broken_ending}
+use Rattle.bound_terms.specs.bound_accesses.specs.bound_names.specs.bound_members.specs.bound_calls.specs.Standing.{AllGiven, Base, GivenIs, IsReceiver, ReceiverStands, RoutineStands, Stands, TermStands, behind_values}
+use Rattle.bound_terms.specs.bound_accesses.specs.bound_names.specs.bound_members.specs.bound_calls.specs.Steps.{Goes}
+use Rattle.bound_terms.specs.bound_accesses.specs.bound_names.specs.bound_members.specs.bound_calls.specs.Taking.{BaseThere, CallsAt, PushesObject, broken_ending, values_of}
 use Rattle.bound_terms.specs.bound_accesses.specs.bound_names.specs.bound_members.specs.bound_calls.proofs.CallSteps.{above_both}
 use Rattle.bound_terms.specs.bound_accesses.specs.bound_names.specs.bound_members.specs.bound_calls.proofs.Growing.{grown_pieces, grown_twice}
 use Rattle.bound_terms.specs.bound_accesses.specs.bound_names.specs.bound_members.specs.bound_calls.proofs.Refusing.{refused}
 use Rattle.bound_terms.specs.bound_accesses.specs.bound_names.specs.bound_members.specs.bound_calls.proofs.Shaping.{takes_shaped}
 use Rattle.bound_terms.specs.bound_accesses.specs.bound_names.specs.bound_members.proofs.Naming.{given_listed, given_long}
 use Rattle.statement_terms.specs.declared.assigning.PropertyLet.{PropertyLet}
-use Rattle.statement_terms.specs.Called.{ActsOn, AssignsTo, LetsWith, args_on, let_with}
-use Rattle.statement_terms.specs.Setting.{SetsTerm, SetsTo}
-use Rattle.bound_actions.specs.Assigning.{RefusesNone}
-use Rattle.bound_actions.specs.NoTargets.{RefusesTarget, SetsRoutine, is_property_term}
+use Rattle.statement_terms.specs.Called.{ActsOn, LetsWith, args_on, let_with}
+use Rattle.statement_terms.specs.Setting.{SetsTerm}
+use Rattle.bound_actions.specs.NoTargets.{BreaksProcedure, NoRoutine, RefusesTarget, SetsProperty, SetsRoutine}
 use Rattle.bound_actions.specs.Untaken.{ReadsUntaken, RefusesArguments, ShapesPassed}
 
 -- ---- arguments on the stack
@@ -147,7 +153,7 @@ untaken_read env ns shapes ys mid low d e a b c g =
 -- ---- what is marked
 
 abbrev pub mark_of : (rule : ℕ) → Place → (values : ℕ) → Node
-mark_of rule place values = node_of (broken_ending rule place values).kind place (broken_ending rule place values).of
+mark_of rule place values = node_of (broken_ending rule place (Plain Variant) values).kind place (broken_ending rule place (Plain Variant) values).of
 
 behind_made : (values made : List bound.Expr) → exprs_of (values ++ made) ≡ behind_values values (exprs_of made)
 behind_made [] made = refl
@@ -161,15 +167,69 @@ mark_fits t rule place count all ps long on_top =
 one_marked : (rule : ℕ) (place : Place) (t : Tables) (value : bound.Expr) (ps : List Piece) → ps ≡ an_expr value ∷ [] → action_of t action.Evaluate (put t (mark_of rule place 1) ps) ≡ Some (broken_target rule place value no_exprs)
 one_marked rule place t value ps alone = ap (λ (st : List Piece). action_of t action.Evaluate (put t (mark_of rule place 1) st)) alone
 
-pub target_refused : (place : Place) (d e : Drafted) → e ≡ record d { pieces = put d.tables (mark_of 27 place 1) d.pieces } → RefusesTarget place d e action.Evaluate
-target_refused place d e eq =
-    let P : Drafted → Type 0 = λ (z : Drafted). RefusesTarget place d z action.Evaluate in
-    subst P (sym eq) (record { grown = grown_pieces d (put d.tables (mark_of 27 place 1) d.pieces); named = tt; does = λ value alone. one_marked 27 place d.tables value d.pieces alone })
+pub target_refused : (x : Term) (place : Place) (d e : Drafted) → NoRoutine x → e ≡ record d { pieces = put d.tables (mark_of 27 place 1) d.pieces } → RefusesTarget x place d e action.Evaluate
+target_refused x place d e other eq =
+    let P : Drafted → Type 0 = λ (z : Drafted). RefusesTarget x place d z action.Evaluate in
+    subst P (sym eq) (record {
+      grown = grown_pieces d (put d.tables (mark_of 27 place 1) d.pieces);
+      named = tt;
+      does = λ env y value h parts.
+          let p = parts other in
+          one_marked 27 place d.tables value d.pieces p.0 ∙ ap (λ (es : Exprs). Some (broken_target 27 place value es)) (sym p.1);
+    })
 
-pub none_refused : (r : Receiver) (place : Place) (d e : Drafted) → r ≡ receiver.Module → e ≡ record d { pieces = put d.tables (mark_of 25 place 1) d.pieces } → RefusesNone r place d e action.Evaluate
-none_refused r place d e of_module eq =
-    let P : Drafted → Type 0 = λ (z : Drafted). RefusesNone r place d z action.Evaluate in
-    subst P (sym eq) (record { of_module = of_module; grown = grown_pieces d (put d.tables (mark_of 25 place 1) d.pieces); named = tt; does = λ value alone. one_marked 25 place d.tables value d.pieces alone })
+routine_object : (base : Option bound.Expr) (space : Space) (number : ℕ) (w : Written) → sub_object (routine_term base space number w) ≡ behind_base base no_exprs
+routine_object None space number w = refl
+routine_object (Some b) space number w = refl
+
+pub routine_refused : (x : Term) (r : Routine) (place : Place) (d e : Drafted) (kind : ActionKind) → x ≡ term.Routine r → BreaksProcedure r.receiver 27 place d e kind → RefusesTarget x place d e kind
+routine_refused x r place d e kind is b = record {
+  grown = b.grown;
+  named = b.named;
+  does = λ env y value h parts.
+      let T : Term → Type 0 = λ (q : Term). TermStands env d.tables q y d.pieces (an_expr value ∷ []) in
+      let s : RoutineStands env r y d.pieces (an_expr value ∷ []) = subst T is h in
+      let q = s.routine in
+      b.does value q.base q.received s.pushed ∙ ap (λ (es : Exprs). Some (broken_target 27 place value es)) (sym (ap sub_object q.is ∙ routine_object q.base q.space q.number q.written));
+}
+
+-- what a procedure is called of, and the value below it
+abbrev object_values : Option bound.Expr → List bound.Expr
+object_values None = []
+object_values (Some base) = base ∷ []
+
+object_long : (r : Receiver) (base : Option bound.Expr) → IsReceiver r base → values_of r ≡ length (object_values base)
+object_long receiver.Module None i = refl
+object_long receiver.Module (Some base) i = absurd i
+object_long (receiver.Own of) None i = absurd i
+object_long (receiver.Own of) (Some base) i = refl
+object_long (receiver.Pushed of) None i = absurd i
+object_long (receiver.Pushed of) (Some base) i = refl
+
+object_top : (base : Option bound.Expr) (value : bound.Expr) (ps : List Piece) → BaseThere base ps (an_expr value ∷ []) → ps ≡ above (map an_expr (value ∷ object_values base)) []
+object_top None value ps h = h
+object_top (Some base) value ps h = h
+
+object_behind : (base : Option bound.Expr) (value : bound.Expr) (es : Exprs) → also value (behind_base base es) ≡ behind_values (value ∷ object_values base) es
+object_behind None value es = refl
+object_behind (Some base) value es = refl
+
+object_exprs : (base : Option bound.Expr) (value : bound.Expr) → exprs_of (value ∷ object_values base) ≡ also value (behind_base base no_exprs)
+object_exprs None value = refl
+object_exprs (Some base) value = refl
+
+-- what can't be assigned to, with what it is called of
+pub breaks_procedure : (r : Receiver) (rule : ℕ) (place : Place) (values : ℕ) (d m e : Drafted) → PushesObject r d m → values ≡ values_of r + 1 → e ≡ record m { pieces = put m.tables (mark_of rule place values) m.pieces } → BreaksProcedure r rule place d e action.Evaluate
+breaks_procedure r rule place values d m e p counted eq =
+    let P : Drafted → Type 0 = λ (z : Drafted). BreaksProcedure r rule place d z action.Evaluate in
+    subst P (sym eq) (record {
+      grown = grown_twice d m (record m { pieces = put m.tables (mark_of rule place values) m.pieces }) p.grown (grown_pieces m (put m.tables (mark_of rule place values) m.pieces));
+      named = tt;
+      does = λ value base received there.
+          let all = value ∷ object_values base in
+          let long : values ≡ length all = omega (arith, counted, object_long r base received) in
+          mark_fits m.tables rule place values all m.pieces long (object_top base value m.pieces (p.there base (an_expr value ∷ []) received there)) ∙ ap (λ (es : Exprs). Some (evaluate (broken_rule rule place es))) (object_exprs base value);
+    })
 
 pub untaken_is : (env : Env) (parameters : List Parameter) (gs : List Given) (es : Exprs) → takes parameters gs ≡ false → variant_arguments env gs ≡ Some es → untaken env parameters gs ≡ Some es
 untaken_is env parameters gs es none h = ap (λ (b : Bool). if b then None else variant_arguments env gs) none ∙ h
@@ -232,71 +292,47 @@ raise_refused env place parameters ns d e kind is h =
           };
     }
 
--- nothing is pushed for a property of a standard module
-pub module_alone : (r : Receiver) (base : Option bound.Expr) (ps below : List Piece) → r ≡ receiver.Module → IsReceiver r base → ReceiverStands r base ps below → (base ≡ None) × (ps ≡ below)
-module_alone receiver.Module None ps below e i s = (refl, s)
-module_alone receiver.Module (Some base) ps below e i s = absurd i
-module_alone (receiver.Own of) base ps below e i s = let z : receiver.Own of ≡ receiver.Module = e in absurd cc
-module_alone (receiver.Pushed of) base ps below e i s = let z : receiver.Pushed of ≡ receiver.Module = e in absurd cc
-
-pub let_refused : (env : Env) (place : Place) (parameters : List Parameter) (p : PropertyLet) (ns : List ExpressionNode) (d e : Drafted) (kind : ActionKind) → p.receiver ≡ receiver.Module → RefusesArguments env parameters 1 place ns d e kind
-    → LetsWith env place parameters p ns d e kind
-let_refused env place parameters p ns d e kind of_module r = record {
-  grown = r.grown;
+-- a property that doesn't take its arguments
+pub let_refused : (env : Env) (place : Place) (parameters : List Parameter) (p : PropertyLet) (before : ℕ) (ns : List ExpressionNode) (d m e : Drafted) (kind : ActionKind) → PushesObject p.receiver d m → before ≡ values_of p.receiver + 1
+    → RefusesArguments env parameters before place ns m e kind → LetsWith env place parameters p ns d e kind
+let_refused env place parameters p before ns d m e kind pushed counted r = record {
+  grown = grown_twice d m e pushed.grown r.grown;
   named = r.named;
   framed = r.framed;
   stands = λ items value base received there.
       let of = declared_view p.of in
       let gs = givens env (args_on items ns) in
-      let m = module_alone p.receiver base d.pieces (an_expr value ∷ []) of_module received there in
-      let u = r.does items (value ∷ []) refl m.1 in
-      let broken : Option Exprs → Option Action = λ (o : Option Exprs). option_map (λ (es : Exprs). broken_target 25 place value (behind_base None es)) o in
+      let vs = value ∷ object_values base in
+      let long : before ≡ length vs = omega (arith, counted, object_long p.receiver base received) in
+      let u = r.does items vs (sym long) (object_top base value m.pieces (pushed.there base (an_expr value ∷ []) received there)) in
+      let broken : Option Exprs → Option Action = λ (o : Option Exprs). option_map (λ (es : Exprs). broken_target 25 place value (behind_base base es)) o in
       record {
-        made = broken_target 25 place value u.made;
-        is = ap (λ (o : Option bound.Expr). let_with env place p.is_itself o parameters p.procedure of gs value) m.0
-            ∙ ap (λ (o : Option bound.Args). or_else (option_map (λ (args : bound.Args). property_given p.is_itself None p.procedure args value of) o) (broken (untaken env parameters gs))) (none_bound env parameters gs u.made u.untaken_is)
+        made = broken_target 25 place value (behind_base base u.made);
+        is = ap (λ (o : Option bound.Args). or_else (option_map (λ (args : bound.Args). property_given p.is_itself base p.procedure args value of) o) (broken (untaken env parameters gs))) (none_bound env parameters gs u.made u.untaken_is)
             ∙ ap broken u.untaken_is;
-        fits = u.fits;
+        fits = u.fits ∙ ap (λ (es : Exprs). Some (evaluate (broken_rule 25 place es))) (sym (object_behind base value u.made));
       };
 }
 
 -- what a procedure gives that is called without arguments is set
-pub routine_set : (word place : Place) (r : Routine) (d m e : Drafted) (ending : Ending) (kind : ActionKind) → ((env : Env) (y : plain.Term) (ps below : List Piece) → RoutineStands env r y ps below → is_property_term y ≡ false)
-    → CallsAt r place d m ending → SetsTerm word place (term.Value ending) m e kind → SetsRoutine word place r d e kind
-routine_set word place r d m e ending kind none c s = record {
+pub routine_set : (word place : Place) (r : Routine) (d m e : Drafted) (ending : Ending) (kind : ActionKind) → CallsAt r place d m ending → SetsTerm word place (term.Value ending) m e kind → SetsRoutine word place r d e kind
+routine_set word place r d m e ending kind c s = record {
   grown = grown_twice d m e c.grown s.grown;
   named = s.named;
-  no_property = none;
-  stands = λ env y value k. s.stands env (indexed env place y []) value (c.stands env y (an_expr value ∷ []) k).called;
+  stands = λ env y value k. s.stands env (alone env place y) value (c.stands env y (an_expr value ∷ []) k).called;
 }
 
--- ---- targets that can't be assigned to
-
-pub sets_refused : (word : Place) (env : Env) (target : Expr) (x : Tree) (d f e : Drafted) (kind : ActionKind) → Leaves env target d f x → f.pieces ≡ d.pieces → is_sub (target_of_call env target) ≡ true → RefusesTarget x.place f e kind
-    → SetsTo word env target d e kind
-sets_refused word env target x d f e kind l same sub r = record {
-  grown = grown_twice d f e l.grown r.grown;
-  named = r.named;
-  stands = λ value alone.
-      let F : Place → Type 0 = λ (p : Place). action_of e.tables kind e.pieces ≡ Some (broken_target 27 p value no_exprs) in
-      record {
-        made = broken_target 27 (place_told target) value no_exprs;
-        is = ap (λ (b : Bool). if b then Some (broken_target 27 (place_told target) value no_exprs) else object_set env word target value) sub;
-        fits = subst F l.stands.place_is (r.does value (same ∙ alone));
-      };
+-- a property without a Set
+pub sets_property : (word place : Place) (r : Receiver) (of : DeclaredType) (rule : ℕ) (at : Place) (may : Bool) (d e : Drafted) (kind : ActionKind) → may ≡ may_refer (declared_view of) → rule ≡ (if may then 27 else 28) → at ≡ (if may then place else word)
+    → BreaksProcedure r rule at d e kind → SetsProperty word place r of d e kind
+sets_property word place r of rule at may d e kind is rule_is at_is b = record {
+  grown = b.grown;
+  named = b.named;
+  does = λ value base received there.
+      let es = behind_base base no_exprs in
+      b.does value base received there ∙ ap (λ (n : ℕ). Some (broken_target n at value es)) rule_is ∙ ap (λ (p : Place). Some (broken_target (if may then 27 else 28) p value es)) at_is ∙ by_may may value es ∙ ap (λ (c : Bool). Some (if c then broken_target 27 place value es else no_reference word (also value es))) is;
 }
-
-pub assigns_refused : (env : Env) (may : Option Bool) (target : Expr) (x : Tree) (given : Bool) (d f e : Drafted) (kind : ActionKind) → Leaves env target d f x → f.pieces ≡ d.pieces → is_no_target env target ≡ true → is_given_with env target ≡ given → RefusesTarget x.place f e kind
-    → AssignsTo env may target d e kind given
-assigns_refused env may target x given d f e kind l same none takes r = record {
-  grown = grown_twice d f e l.grown r.grown;
-  named = r.named;
-  takes = takes;
-  stands = λ value goes alone.
-      let F : Place → Type 0 = λ (p : Place). action_of e.tables kind e.pieces ≡ Some (broken_target 27 p value no_exprs) in
-      record {
-        made = broken_target 27 (place_told target) value no_exprs;
-        is = ap (λ (b : Bool). if b then Some (broken_target 27 (place_told target) value no_exprs) else written_to env target value) none;
-        fits = subst F l.stands.place_is (r.does value (same ∙ alone));
-      };
-}
+  where
+    by_may : (b : Bool) (value : bound.Expr) (es : Exprs) → ◌≡◌ {A = Option Action} (Some (broken_target (if b then 27 else 28) (if b then place else word) value es)) (Some (if b then broken_target 27 place value es else no_reference word (also value es)))
+    by_may true value es = refl
+    by_may false value es = refl

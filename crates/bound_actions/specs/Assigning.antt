@@ -5,18 +5,14 @@ use Rattle.vba_words.specs.declared.identifier.Identifier.{Identifier}
 use Rattle.vba_expression.specs.Tree.{Expr}
 use Rattle.vba_expression.specs.declared.node.ExpressionNode.{ExpressionNode}
 use Rattle.bound_project.specs.declared.statement.ActionKind.{ActionKind}
-use Rattle.bound_project.specs.Bodies.{action_of}
 use Rattle.bound_project.specs.Drafts.{ActionNamed, Drafted}
-use Rattle.bound_project.specs.Expressions.{no_exprs}
 use Rattle.bound_project.specs.Expressions as bound
 use Rattle.bound_project.specs.Pieces.{Piece, Tables, an_expr}
 use Rattle.declared_names.specs.binder.specs.Scopes.{declares, plainly}
 use Rattle.bound_terms.specs.bound_accesses.specs.bound_names.specs.bound_members.specs.bound_calls.specs.bound_forms.specs.Terms.{Env, a_host_member}
 use Rattle.bound_terms.specs.bound_accesses.specs.bound_names.specs.bound_members.specs.bound_calls.specs.bound_forms.specs.Terms as plain
-use Rattle.bound_terms.specs.bound_accesses.specs.bound_names.specs.bound_members.specs.bound_calls.specs.bound_forms.specs.ExpressionsBound.{item_of}
-use Rattle.bound_terms.specs.bound_accesses.specs.bound_names.specs.bound_members.specs.bound_calls.specs.bound_forms.specs.StatementsBound.{assigned_to, broken_target, is_given_with, is_indexed_late, is_no_target, takes_value}
-use Rattle.bound_terms.specs.bound_accesses.specs.bound_names.specs.bound_members.specs.bound_calls.specs.declared.term.Receiver.{Receiver}
-use Rattle.bound_terms.specs.bound_accesses.specs.bound_names.specs.bound_members.specs.bound_calls.specs.declared.term.Receiver.TheVariants as receiver
+use Rattle.bound_terms.specs.bound_accesses.specs.bound_names.specs.bound_members.specs.bound_calls.specs.bound_forms.specs.Members.{item_of}
+use Rattle.bound_terms.specs.bound_accesses.specs.bound_names.specs.bound_members.specs.bound_calls.specs.bound_forms.specs.Targets.{assigned_to, is_given_with, is_indexed_late, is_no_target, takes_value}
 use Rattle.bound_terms.specs.bound_accesses.specs.bound_names.specs.bound_members.specs.bound_calls.specs.declared.term.Term.{Term}
 use Rattle.bound_terms.specs.bound_accesses.specs.bound_names.specs.bound_members.specs.bound_calls.specs.declared.term.Tree.{Tree}
 use Rattle.bound_terms.specs.bound_accesses.specs.bound_names.specs.bound_members.specs.bound_calls.specs.Standing.{Grown, TermStands, TreeStands}
@@ -68,13 +64,6 @@ is_member t = false
 -- whether a term is a property that has a Let, which takes the value with arguments; it is no member of an object
 abbrev pub TakesLet : Env → Term → Bool → Type 0
 TakesLet env x given = (t : Tables) (y : plain.Term) (ps below : List Piece) → is_member y ≡ false → TermStands env t x y ps below → takes_value env y ≡ given
-
--- S25: a property, of no object, lacks the arguments that it needs, which was marked with the value
-pub record RefusesNone (r : Receiver) (place : Place) (d e : Drafted) (kind : ActionKind) : Type 0 where
-  pub of_module : r ≡ receiver.Module
-  pub grown : Grown d e
-  pub named : ActionNamed e.tables kind
-  pub does : (value : bound.Expr) → d.pieces ≡ an_expr value ∷ [] → action_of e.tables kind e.pieces ≡ Some (broken_target 25 place value no_exprs)
 
 -- an expression that has no Let, is no Sub and no ParamArray, and doesn't end with arguments, is assigned the value that was
 -- pushed below it, and whether that comes as it is

@@ -22,8 +22,9 @@ use Rattle.declared_names.specs.binder.specs.Classes.{class_in}
 use Rattle.bound_terms.specs.bound_accesses.specs.bound_names.specs.bound_members.specs.bound_calls.specs.bound_forms.specs.ClassDefaults.{Known, class_let, class_set, declared_in}
 use Rattle.bound_terms.specs.bound_accesses.specs.bound_names.specs.bound_members.specs.bound_calls.specs.bound_forms.specs.Terms.{Env, Given}
 use Rattle.bound_terms.specs.bound_accesses.specs.bound_names.specs.bound_members.specs.bound_calls.specs.bound_forms.specs.Terms as plain
-use Rattle.bound_terms.specs.bound_accesses.specs.bound_names.specs.bound_members.specs.bound_calls.specs.bound_forms.specs.ExpressionsBound.{callee, given_as, givens, indexed, place_told, term_of, variant_arguments}
-use Rattle.bound_terms.specs.bound_accesses.specs.bound_names.specs.bound_members.specs.bound_calls.specs.bound_forms.specs.StatementsBound.{broken_target, element_assigned, element_given, led_assigned, led_set, target_before}
+use Rattle.bound_terms.specs.bound_accesses.specs.bound_names.specs.bound_members.specs.bound_calls.specs.bound_forms.specs.Operands.{given_as, place_told}
+use Rattle.bound_terms.specs.bound_accesses.specs.bound_names.specs.bound_members.specs.bound_calls.specs.bound_forms.specs.ExpressionsBound.{callee, givens, indexed, term_of, variant_arguments}
+use Rattle.bound_terms.specs.bound_accesses.specs.bound_names.specs.bound_members.specs.bound_calls.specs.bound_forms.specs.Targets.{broken_target, element_assigned, element_given, led_assigned, led_set}
 use Rattle.bound_terms.specs.bound_accesses.specs.bound_names.specs.bound_members.specs.bound_calls.specs.declared.term.Indexed.{Indexed}
 use Rattle.bound_terms.specs.bound_accesses.specs.bound_names.specs.bound_members.specs.bound_calls.specs.declared.term.Target.{Target}
 use Rattle.bound_terms.specs.bound_accesses.specs.bound_names.specs.bound_members.specs.bound_calls.specs.declared.term.Target.TheVariants as target
@@ -31,11 +32,11 @@ use Rattle.bound_terms.specs.bound_accesses.specs.bound_names.specs.bound_member
 use Rattle.bound_terms.specs.bound_accesses.specs.bound_names.specs.bound_members.specs.bound_calls.specs.declared.term.Term.TheVariants as term
 use Rattle.bound_terms.specs.bound_accesses.specs.bound_names.specs.bound_members.specs.bound_calls.specs.class_defaults.specs.Items.{ArePlain}
 use Rattle.bound_terms.specs.bound_accesses.specs.bound_names.specs.bound_members.specs.bound_calls.specs.Standing.{Grown, IndexedStands, TermStands}
-use Rattle.statement_terms.specs.Called.{ActionIs, Framed, args_on}
+use Rattle.statement_terms.specs.Called.{ActionIs, Framed, args_on, item_before}
 
 -- the class that a term is declared as of
 abbrev pub term_class : Term → Option ℕ
-term_class (term.Place kind of bounded lends makes) = class_in (declared_view of)
+term_class (term.Place kind of bounds lends makes) = class_in (declared_view of)
 term_class (term.Value e) = class_in (declared_view e.of)
 term_class x = None
 
@@ -79,7 +80,7 @@ pub record LedAt (env : Env) (base whole : Expr) (left right : Token) (count : �
   pub at : Lvalue
   pub numbers : List bound.Expr
   pub count_is : count ≡ length numbers
-  pub does : (sets : Bool) (v : bound.Expr) → element_by sets (indexed env (place_told base) (target_before env base) (givens env args)) v ≡ Some (element_done sets at (exprs_of numbers) v)
+  pub does : (sets : Bool) (v : bound.Expr) → element_by sets (indexed env (place_told base) (item_before env base) (givens env args)) v ≡ Some (element_done sets at (exprs_of numbers) v)
   pub on_top : ps ≡ above (map an_expr numbers) (a_place at ∷ below)
 
 pub record LeadsOn (env : Env) (place : Place) (x : Term) (ns : List ExpressionNode) (d e : Drafted) (count : ℕ) : Type 0 where
@@ -92,7 +93,7 @@ pub record KnownDone (sets : Bool) (env : Env) (base whole : Expr) (left right :
   pub args : Args
   pub whole_is : whole ≡ index base left args right
   pub plain : ArePlain count (givens env args)
-  pub does : (value : bound.Expr) → below ≡ an_expr value ∷ [] → ActionIs kind (element_by sets (indexed env (place_told base) (target_before env base) (givens env args)) value) t ps
+  pub does : (value : bound.Expr) → below ≡ an_expr value ∷ [] → ActionIs kind (element_by sets (indexed env (place_told base) (item_before env base) (givens env args)) value) t ps
 
 pub record GivesKnown (sets : Bool) (env : Env) (place : Place) (x : Term) (count : ℕ) (ns : List ExpressionNode) (d e : Drafted) (kind : ActionKind) : Type 0 where
   pub grown : Grown d e
@@ -119,7 +120,7 @@ pub record RefusesLed (env : Env) (place : Place) (x : Term) (rule count : ℕ) 
 pub record DoesLed (sets : Bool) (env : Env) (number : ℕ) (base whole : Expr) (left right : Token) (kind : ActionKind) (t : Tables) (ps below : List Piece) : Type 0 where
   pub args : Args
   pub whole_is : whole ≡ index base left args right
-  pub does : (value : bound.Expr) → below ≡ an_expr value ∷ [] → ActionIs kind (led_done sets env number (place_told base) (target_before env base) (givens env args) value) t ps
+  pub does : (value : bound.Expr) → below ≡ an_expr value ∷ [] → ActionIs kind (led_done sets env number (place_told base) (item_before env base) (givens env args) value) t ps
 
 pub record GivesLed (sets : Bool) (env : Env) (place : Place) (x : Term) (number : ℕ) (ns : List ExpressionNode) (d e : Drafted) (kind : ActionKind) : Type 0 where
   pub grown : Grown d e

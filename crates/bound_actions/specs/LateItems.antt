@@ -14,8 +14,9 @@ use Rattle.bound_project.specs.Expressions as bound
 use Rattle.bound_project.specs.Lists.{above, exprs_of}
 use Rattle.bound_project.specs.Pieces.{Piece, a_place, an_expr}
 use Rattle.bound_terms.specs.bound_accesses.specs.bound_names.specs.bound_members.specs.bound_calls.specs.bound_forms.specs.Terms.{Env, a_value}
-use Rattle.bound_terms.specs.bound_accesses.specs.bound_names.specs.bound_members.specs.bound_calls.specs.bound_forms.specs.ExpressionsBound.{callee, givens, indexed, place_told, term_of}
-use Rattle.bound_terms.specs.bound_accesses.specs.bound_names.specs.bound_members.specs.bound_calls.specs.bound_forms.specs.StatementsBound.{target_before}
+use Rattle.bound_terms.specs.bound_accesses.specs.bound_names.specs.bound_members.specs.bound_calls.specs.bound_forms.specs.Operands.{place_told}
+use Rattle.bound_terms.specs.bound_accesses.specs.bound_names.specs.bound_members.specs.bound_calls.specs.bound_forms.specs.ExpressionsBound.{callee, givens, indexed, term_of}
+use Rattle.statement_terms.specs.Called.{item_before}
 use Rattle.bound_terms.specs.bound_accesses.specs.bound_names.specs.bound_members.specs.bound_calls.specs.declared.term.Ending.{Ending}
 use Rattle.bound_terms.specs.bound_accesses.specs.bound_names.specs.bound_members.specs.bound_calls.specs.declared.term.Indexed.{Indexed}
 use Rattle.bound_terms.specs.bound_accesses.specs.bound_names.specs.bound_members.specs.bound_calls.specs.declared.term.Item.TheVariants as item
@@ -37,7 +38,7 @@ pub record ItemLed (env : Env) (base whole : Expr) (left right : Token) (count :
   pub value : bound.Expr
   pub numbers : List bound.Expr
   pub count_is : count ≡ length numbers
-  pub indexed_is : indexed env (place_told base) (target_before env base) (givens env args) ≡ a_value (late_item value (exprs_of numbers)) type.variant
+  pub indexed_is : indexed env (place_told base) (item_before env base) (givens env args) ≡ a_value (late_item value (exprs_of numbers)) type.variant
   pub on_top : ps ≡ above (map an_expr numbers) (a_place (value_place value) ∷ below)
 
 pub record LeadsFrom (env : Env) (x : Ending) (place : Place) (ns : List ExpressionNode) (d e : Drafted) (count : ℕ) : Type 0 where

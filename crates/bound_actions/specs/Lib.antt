@@ -7,3 +7,4 @@ pub mod LateItems
 pub mod ClassItems
 pub mod LateSets
 pub mod Raised
+pub mod Behind

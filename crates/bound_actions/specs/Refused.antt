@@ -9,7 +9,7 @@ use Rattle.bound_project.specs.Expressions as bound
 use Rattle.bound_project.specs.Pieces.{an_expr}
 use Rattle.bound_terms.specs.bound_accesses.specs.bound_names.specs.bound_members.specs.bound_calls.specs.bound_forms.specs.Terms.{Env, a_host_member}
 use Rattle.bound_terms.specs.bound_accesses.specs.bound_names.specs.bound_members.specs.bound_calls.specs.bound_forms.specs.ExpressionsBound.{givens, indexed}
-use Rattle.bound_terms.specs.bound_accesses.specs.bound_names.specs.bound_members.specs.bound_calls.specs.bound_forms.specs.StatementsBound.{member_written, set_to}
+use Rattle.bound_terms.specs.bound_accesses.specs.bound_names.specs.bound_members.specs.bound_calls.specs.bound_forms.specs.Targets.{member_written, set_to}
 use Rattle.bound_terms.specs.bound_accesses.specs.bound_names.specs.bound_members.specs.bound_calls.specs.declared.term.HostMember.{HostMember}
 use Rattle.bound_terms.specs.bound_accesses.specs.bound_names.specs.bound_members.specs.bound_calls.specs.Standing.{Grown, member_is}
 use Rattle.statement_terms.specs.Called.{ActionIs, Framed, args_on}
@@ -28,4 +28,4 @@ pub record RefusesSet (env : Env) (word place : Place) (m : HostMember) (ns : Li
   pub named : ActionNamed e.tables kind
   pub framed : Framed ns
   pub does : (items : List nodes.Item) (object value : bound.Expr) → d.pieces ≡ an_expr object ∷ an_expr value ∷ []
-      → ActionIs kind (set_to word place (indexed env place (a_host_member object (member_is d.tables m)) (givens env (args_on items ns))) value) e.tables e.pieces
+      → ActionIs kind (set_to env word place (indexed env place (a_host_member object (member_is d.tables m)) (givens env (args_on items ns))) value) e.tables e.pieces

@@ -2,6 +2,7 @@ ghost use Rattle.std.specs.Prelude.{◌≡◌, [], IfOk, option_and_then};
 ghost use Rattle.vba_expression.specs.View.{view as expression_view, arguments_view};
 ghost use Rattle.bound_project.specs.DraftView.{draft_view};
 ghost use Rattle.bound_terms.specs.bound_accesses.specs.bound_names.specs.bound_members.specs.bound_calls.specs.bound_forms.specs.ExpressionsBound.{givens};
+ghost use Rattle.bound_terms.specs.bound_accesses.specs.bound_names.specs.bound_members.specs.bound_calls.specs.bound_forms.specs.Targets as targets;
 ghost use Rattle.bound_terms.specs.bound_accesses.specs.bound_names.specs.bound_members.specs.bound_calls.specs.bound_forms.specs.StatementsBound as plain;
 ghost use Rattle.statement_terms.specs.statement_nodes.specs.Pushed.{ActionStands};
 ghost use Rattle.bound_terms.specs.bound_accesses.specs.bound_names.specs.View.{EnvStands, env_view};
@@ -30,7 +31,7 @@ pub fn bind_assignment<'a>(
     requires env { EnvStands env }
     requires empty { (draft_view draft.old).pieces ≡ [] }
     ensures { IfOk result (λ kind. ActionStands kind
-        (option_and_then (plain.assigned_to (env_view env.entry) (expression_view place.now)) (plain.value_given (env_view env.entry) (expression_view place.now) (expression_view value.now)))
+        (option_and_then (targets.assigned_to (env_view env.entry) (expression_view place.now)) (targets.value_given (env_view env.entry) (expression_view place.now) (expression_view value.now)))
         (draft_view draft.old) (draft_view draft.new)) }
 {
     let may_be = bind_assigned(alloc, draft, env, place, value)?;

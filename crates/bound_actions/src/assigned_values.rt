@@ -3,7 +3,7 @@
 ghost use Rattle.std.specs.Prelude.{◌≡◌, true, false, Bool, Some, IfOk};
 ghost use Rattle.vba_expression.specs.View.{view as expression_view};
 ghost use Rattle.bound_project.specs.DraftView.{draft_view};
-ghost use Rattle.bound_terms.specs.bound_accesses.specs.bound_names.specs.bound_members.specs.bound_calls.specs.bound_forms.specs.StatementsBound as plain;
+ghost use Rattle.bound_terms.specs.bound_accesses.specs.bound_names.specs.bound_members.specs.bound_calls.specs.bound_forms.specs.Targets as targets;
 ghost use Rattle.statement_terms.specs.Assigning.{PushesFor, ValueFor, is_plain, marked_may};
 ghost use Rattle.bound_terms.specs.bound_accesses.specs.bound_names.specs.bound_members.specs.bound_calls.specs.Standing.{TermNamed};
 ghost use Rattle.bound_terms.specs.bound_accesses.specs.bound_names.specs.View.{EnvStands, env_view};
@@ -28,7 +28,7 @@ fn is_given_in<'a>(
     place: &'a Expression,
 ) -> Result<bool, OrMemory<NotYet>>
     requires { EnvStands env }
-    ensures { IfOk result (λ given. given ≡ plain.is_given_with (env_view env.entry) (expression_view place.now)) }
+    ensures { IfOk result (λ given. given ≡ targets.is_given_with (env_view env.entry) (expression_view place.now)) }
 {
     let done = assign_to(alloc, draft, env, place, Some(false))?;
     Ok(done.is_given)
@@ -41,7 +41,7 @@ fn is_given_with<'a>(
     place: &'a Expression,
 ) -> Result<bool, OrMemory<NotYet>>
     requires { EnvStands env }
-    ensures { IfOk result (λ given. given ≡ plain.is_given_with (env_view env.entry) (expression_view place.now)) }
+    ensures { IfOk result (λ given. given ≡ targets.is_given_with (env_view env.entry) (expression_view place.now)) }
 {
     let mut draft = Draft::new(alloc);
     is_given_in(alloc, &mut draft, env, place)
@@ -74,7 +74,7 @@ fn push_for<'a>(
 ) -> Result<(DeclaredType, Option<bool>), OrMemory<NotYet>>
     requires env { EnvStands env }
     requires named { TermNamed (draft_view draft.old).tables tree.term }
-    ensures { IfOk result (λ pushed. PushesFor env.entry.has_class pushed.1 (plain.is_given_with (env_view env.entry) (expression_view place.now)) tree.entry (draft_view draft.old) (draft_view draft.new) pushed.0) }
+    ensures { IfOk result (λ pushed. PushesFor env.entry.has_class pushed.1 (targets.is_given_with (env_view env.entry) (expression_view place.now)) tree.entry (draft_view draft.old) (draft_view draft.new) pushed.0) }
 {
     if is_plain(tree.term) {
         let of = push_plain(alloc, draft, tree)?;
@@ -105,7 +105,7 @@ pub fn bind_assigned<'a>(
     value: &'a Expression,
 ) -> Result<Option<bool>, OrMemory<NotYet>>
     requires { EnvStands env }
-    ensures { IfOk result (λ may_be. ValueFor (env_view env.entry) may_be (plain.value_given (env_view env.entry) (expression_view place.now) (expression_view value.now)) (draft_view draft.old) (draft_view draft.new)) }
+    ensures { IfOk result (λ may_be. ValueFor (env_view env.entry) may_be (targets.value_given (env_view env.entry) (expression_view place.now) (expression_view value.now)) (draft_view draft.old) (draft_view draft.new)) }
 {
     let tree = tree_of(alloc, draft, env, value)?;
     let (of, may_be) = push_for(alloc, draft, env, place, tree)?;

@@ -1,13 +1,15 @@
 //! What the value of an assignment goes to.
 
-ghost use Rattle.std.specs.Prelude.{◌≡◌, ◌||◌, [], IfOk, IfSome, map};
+ghost use Rattle.std.specs.Prelude.{◌≡◌, ◌||◌, Bool, false, Option, [], IfOk, IfSome, map};
 ghost use Rattle.vba_expression.specs.View.{view as expression_view};
 ghost use Rattle.vba_expression.specs.Nodes.{tree_in};
 ghost use Rattle.bound_project.specs.DraftView.{draft_view};
 ghost use Rattle.bound_project.specs.View.{declared_view, parameter_view};
 ghost use Rattle.statement_terms.specs.Called.{AssignsTo, IsBare, Lets, LetsOn, LetsTaken, LetsWith, SplitAt, is_method};
 ghost use Rattle.declared_names.specs.binder.specs.Types as types;
-ghost use Rattle.bound_actions.specs.Assigning.{AssignsItemOf, AssignsOther, GivesProperty, ItemGiven, RefusesNone, part_for};
+ghost use Rattle.statement_terms.specs.Heights.{AddsOne};
+ghost use Rattle.bound_actions.specs.Behind.{AssignsBehind};
+ghost use Rattle.bound_actions.specs.Assigning.{AssignsItemOf, AssignsOther, GivesProperty, ItemGiven, part_for};
 ghost use Rattle.bound_terms.specs.bound_accesses.specs.bound_names.specs.bound_members.specs.bound_calls.specs.Standing.{TermNamed};
 ghost use Rattle.bound_terms.specs.bound_accesses.specs.bound_names.specs.Callee.{IsWriter};
 ghost use Rattle.bound_terms.specs.bound_accesses.specs.bound_names.specs.View.{EnvStands, env_view};
@@ -16,17 +18,20 @@ ghost use Rattle.declared_names.specs.View.{scope_view};
 use crate::class_items::{give_led, term_class};
 use crate::late_items::lead_from;
 use crate::member_targets::assign_item;
-use crate::no_targets::{has_let, is_no_target, is_sub, refuse_target};
+use crate::no_targets::{
+    break_procedure, has_let, is_no_target, is_sub, is_sub_kind, refuse_target,
+};
+use crate::property_targets::{Before, target_before};
 use crate::statement_calls::read_named;
 use crate::trees::{continue_tree, nodes_tree};
 use crate::untaken::refuse_arguments;
 use bound_project::{ActionKind, DeclaredType, Draft, Parameter};
 use bound_terms::bound_accesses::bound_names::bound_members::bound_calls::bound_declarations::{
-    NotYet, gives_value, procedure_number,
+    NotYet, procedure_number,
 };
 use bound_terms::bound_accesses::bound_names::bound_members::bound_calls::{
-    Receiver, Term, Tree, called_ending, count_of, pass_rest, push_broken, push_in_order,
-    push_receiver, takes, takes_none,
+    Routine, Term, Tree, called_ending, count_of, pass_rest, push_in_order, push_object,
+    push_receiver, sum, takes, takes_none, values_of,
 };
 use bound_terms::bound_accesses::bound_names::bound_members::shapes_ahead;
 use bound_terms::bound_accesses::bound_names::{Env, Writer, callee_term, writer_of};
@@ -63,7 +68,7 @@ fn let_taken<'a>(
     Ok(ordered_kind(property, ordered))
 }
 
-/// A property that doesn't take its arguments, behind the value that it is given; of an object it isn't built.
+/// A property that doesn't take its arguments, behind the value that it is given.
 fn let_refused<'a>(
     alloc: Global,
     draft: &mut Draft,
@@ -76,10 +81,9 @@ fn let_refused<'a>(
     requires { EnvStands env }
     ensures { IfOk result (λ kind. LetsWith (env_view env.entry) place (map parameter_view front.now) property nodes.now (draft_view draft.old) (draft_view draft.new) kind) }
 {
-    let Receiver::Module = property.receiver else {
-        return Err(OrMemory::Fault(NotYet));
-    };
-    refuse_arguments(alloc, draft, env, front, 1, place, nodes)
+    push_object(draft, property.receiver)?;
+    let before = sum(values_of(property.receiver), 1)?;
+    refuse_arguments(alloc, draft, env, front, before, place, nodes)
 }
 
 /// An assignment to a property whose object, where it has one, and whose arguments, for these parameters, are pushed.
@@ -112,7 +116,7 @@ fn is_itself(sets: bool, of: DeclaredType) -> bool
 }
 
 /// A property that is given a value, or by Set an object, and the parameters of its other arguments.
-fn property_given<'a>(
+pub fn property_given<'a>(
     env: Env<'a>,
     writer: Writer<'a>,
     sets: bool,
@@ -138,22 +142,6 @@ fn property_given<'a>(
     Ok((property, front))
 }
 
-/// A property of a standard module without the arguments that it needs, behind the value that it is given; of an object it
-/// isn't built.
-fn refuse_none(
-    draft: &mut Draft,
-    property: PropertyLet,
-    place: Place,
-) -> Result<ActionKind, OrMemory<NotYet>>
-    ensures { IfOk result (λ kind. RefusesNone property.receiver place (draft_view draft.old) (draft_view draft.new) kind) }
-{
-    let Receiver::Module = property.receiver else {
-        return Err(OrMemory::Fault(NotYet));
-    };
-    push_broken(draft, 25, place, 1)?;
-    Ok(ActionKind::Evaluate)
-}
-
 /// `property = value`, or Set of it
 pub fn let_bare<'a>(
     alloc: Global,
@@ -169,8 +157,7 @@ pub fn let_bare<'a>(
 {
     let (property, front) = property_given(env, writer, sets)?;
     if !takes_none(front) {
-        let kind = refuse_none(draft, property, place)?;
-        return Ok(kind);
+        return break_procedure(draft, property.receiver, 25, place);
     }
     push_receiver(draft, property.receiver)?;
     let arguments = count_of(front)?;
@@ -196,8 +183,27 @@ pub fn let_given<'a>(
     let_passed(alloc, draft, env, property, front, place, nodes)
 }
 
-/// What has no Let and no arguments, behind the value that it is given, which may be an object of a class or not: of a
-/// procedure what it gives.
+/// A procedure that has no Let, behind the value that it is given: a Sub breaks a rule, and of another one it goes to what that
+/// gives.
+fn assign_routine<'a>(
+    alloc: Global,
+    draft: &mut Draft,
+    tree: Tree<'a>,
+    routine: Routine<'a>,
+    has_class: bool,
+) -> Result<ActionKind, OrMemory<NotYet>>
+    requires { tree.term ≡ Term.Routine routine }
+    ensures { IfOk result (λ kind. (may : Option Bool) → AssignsOther has_class may tree.entry (draft_view draft.old) (draft_view draft.new) kind false) }
+{
+    if is_sub_kind(routine.written.header.words) {
+        return break_procedure(draft, routine.receiver, 27, tree.place);
+    }
+    let ending = called_ending(alloc, draft, routine, tree.place)?;
+    assign_value(draft, ending, tree.place, has_class, tree.declared)
+}
+
+/// What has no Let and no arguments, behind the value that it is given, which may be an object of a class or not. A property
+/// that gives nothing either can't be assigned to.
 fn assign_other<'a>(
     alloc: Global,
     draft: &mut Draft,
@@ -210,11 +216,11 @@ fn assign_other<'a>(
 {
     match tree.term {
         Term::Routine(routine) => {
-            if !gives_value(routine.written.header.words) {
-                return Err(OrMemory::Fault(NotYet));
-            }
-            let ending = called_ending(alloc, draft, routine, tree.place)?;
-            let kind = assign_value(draft, ending, tree.place, has_class, tree.declared)?;
+            let kind = assign_routine(alloc, draft, tree, routine, has_class)?;
+            Ok(as_operand(kind))
+        }
+        Term::Property(property) => {
+            let kind = break_procedure(draft, property.receiver, 27, tree.place)?;
             Ok(as_operand(kind))
         }
         _ => assign_tree(alloc, draft, tree, has_class, may_be),
@@ -236,7 +242,7 @@ fn assign_bare<'a>(
 {
     let tree = tree_of(alloc, draft, env, place)?;
     if is_no_target(env, tree) {
-        let kind = refuse_target(draft, tree.place)?;
+        let kind = refuse_target(draft, tree.term, tree.place)?;
         return Ok(Assignment {
             kind,
             is_given: has_let(env, tree.term),
@@ -284,31 +290,23 @@ fn assign_item_of<'a>(
     Ok(Assignment { kind, is_given })
 }
 
-/// A place with arguments in brackets at its end, behind the value that it is given, which may be an object of a class or not.
-fn assign_split<'a>(
+/// What stands before arguments in brackets at the end of a place, by its term as it is called, behind the value that it is
+/// given, which may be an object of a class or not.
+fn assign_behind<'a>(
     alloc: Global,
     draft: &mut Draft,
     env: Env<'a>,
-    nodes: &'a [ExpressionNode],
+    before: Before<'a>,
     split: Split<'a>,
     may_be: Option<bool>,
 ) -> Result<Assignment, OrMemory<NotYet>>
     requires env { EnvStands env }
-    requires split { SplitAt split nodes.now }
-    ensures { IfOk result (λ done. AssignsTo (env_view env.entry) may_be (tree_in nodes.now) (draft_view draft.old) (draft_view draft.new) done.kind done.is_given) }
+    requires tree { TermNamed (draft_view draft.old).tables before.tree.term }
+    requires named { TermNamed (draft_view draft.old).tables before.term }
+    requires one { AddsOne split.arguments.now }
+    ensures { IfOk result (λ done. AssignsBehind (env_view env.entry) may_be before.entry split.entry (draft_view draft.old) (draft_view draft.new) done.kind done.is_given) }
 {
-    if !adds_one(split.arguments) {
-        return Err(OrMemory::NoMemory);
-    }
-    let tree = nodes_tree(alloc, draft, env, split.target)?;
-    let term = callee_term(alloc, draft, env, tree)?;
-    if is_sub(term) {
-        let kind = refuse_target(draft, tree.place)?;
-        return Ok(Assignment {
-            kind,
-            is_given: has_let(env, term),
-        });
-    }
+    let Before { tree, term } = before;
     if let Some(writer) = writer_of(env.constants.scope, term) {
         let kind = let_given(
             alloc,
@@ -334,6 +332,35 @@ fn assign_split<'a>(
         return Ok(as_given(ActionKind::AssignElement { numbers }));
     }
     assign_item_of(alloc, draft, env, tree, term, split)
+}
+
+/// A place with arguments in brackets at its end, behind the value that it is given, which may be an object of a class or not.
+fn assign_split<'a>(
+    alloc: Global,
+    draft: &mut Draft,
+    env: Env<'a>,
+    nodes: &'a [ExpressionNode],
+    split: Split<'a>,
+    may_be: Option<bool>,
+) -> Result<Assignment, OrMemory<NotYet>>
+    requires env { EnvStands env }
+    requires split { SplitAt split nodes.now }
+    ensures { IfOk result (λ done. AssignsTo (env_view env.entry) may_be (tree_in nodes.now) (draft_view draft.old) (draft_view draft.new) done.kind done.is_given) }
+{
+    if !adds_one(split.arguments) {
+        return Err(OrMemory::NoMemory);
+    }
+    let tree = nodes_tree(alloc, draft, env, split.target)?;
+    let term = callee_term(alloc, draft, env, tree)?;
+    if is_sub(term) {
+        let kind = refuse_target(draft, term, tree.place)?;
+        return Ok(Assignment {
+            kind,
+            is_given: has_let(env, term),
+        });
+    }
+    let before = target_before(alloc, draft, Before { tree, term }, split.arguments)?;
+    assign_behind(alloc, draft, env, before, split, may_be)
 }
 
 /// What is done with a value that was pushed, which may be an object of a class or not, where it is assigned to an expression.

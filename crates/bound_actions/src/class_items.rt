@@ -1,6 +1,6 @@
 //! What arguments in brackets behind an object of a class lead to, where it is assigned to or set.
 
-ghost use Rattle.std.specs.Prelude.{◌≡◌, Bool, IfOk, List, Some};
+ghost use Rattle.std.specs.Prelude.{◌≡◌, ℕ, IfOk, List, Some};
 ghost use Rattle.bound_project.specs.DraftView.{draft_view};
 ghost use Rattle.bound_project.specs.View.{declarations_view};
 ghost use Rattle.statement_terms.specs.Heights.{AddsOne};
@@ -64,7 +64,7 @@ fn begin_place<'a>(
     requires env { EnvStands env }
     requires named { TermNamed (draft_view draft.old).tables (Term.Value at) }
     requires class { term_class (Term.Value at) ≡ Some class }
-    ensures { IfOk result (λ indexed. (bounded : Bool) → BeginsAt (env_view env.entry) tree.entry.place (Term.Place at.kind at.of bounded lends makes) (draft_view draft.old) (draft_view draft.new) indexed) }
+    ensures { IfOk result (λ indexed. (bounds : ℕ) → BeginsAt (env_view env.entry) tree.entry.place (Term.Place at.kind at.of bounds lends makes) (draft_view draft.old) (draft_view draft.new) indexed) }
 {
     let item = open_led_place(draft, env.declared, tree, at, lends, makes, class, count)?;
     let Item::Indexed(indexed) = item else {

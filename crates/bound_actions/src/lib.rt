@@ -10,6 +10,7 @@ mod indexed_calls;
 mod late_items;
 mod member_targets;
 mod no_targets;
+mod property_targets;
 mod raising;
 mod setting;
 mod statement_calls;

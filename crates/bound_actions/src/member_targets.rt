@@ -45,6 +45,9 @@ pub fn read_member<'a>(
     let Some(Item::Member(more)) = take_item(&mut stack) else {
         return Err(OrMemory::Fault(NotYet));
     };
+    if more.of_property {
+        return Err(OrMemory::Fault(NotYet));
+    }
     if stack.is_empty() {
         Ok(more)
     } else {
@@ -110,7 +113,16 @@ pub fn assign_item<'a>(
         return Err(OrMemory::Fault(NotYet));
     }
     let aim = aim_of(member, &shapes);
-    let opened = open_member(alloc, draft, place, member, &shapes, aim, env.has_class)?;
+    let opened = open_member(
+        alloc,
+        draft,
+        place,
+        member,
+        &shapes,
+        aim,
+        env.has_class,
+        false,
+    )?;
     let call = read_member(alloc, draft, env, opened, nodes)?;
     write_call(draft, call, may_be)
 }

@@ -5,36 +5,34 @@ ghost use Rattle.bound_project.specs.DraftView.{draft_view};
 ghost use Rattle.declared_names.specs.View.{meant_view, own_view, written_view};
 ghost use Rattle.bound_terms.specs.bound_accesses.specs.bound_names.specs.View.{env_view};
 ghost use Rattle.bound_actions.specs.Assigning.{IsNoTarget, TakesLet, named_list};
-ghost use Rattle.bound_actions.specs.NoTargets.{IsSub, RefusesTarget, is_module_sub, means_list, owns_list};
+ghost use Rattle.bound_actions.specs.NoTargets.{BreaksProcedure, IsSub, RefusesTarget, means_list, owns_list};
+ghost use Rattle.bound_terms.specs.bound_accesses.specs.bound_names.specs.bound_members.specs.bound_calls.specs.bound_forms.specs.Targets as targets;
 
 use bound_project::{ActionKind, Draft};
 use bound_terms::bound_accesses::bound_names::bound_members::bound_calls::bound_declarations::{
-    gives_value, is_property,
+    NotYet, gives_value, is_property,
 };
 use bound_terms::bound_accesses::bound_names::bound_members::bound_calls::{
-    Receiver, Routine, Term, Tree, push_broken,
+    Receiver, Routine, Term, Tree, push_broken, push_object, sum, values_of,
 };
 use bound_terms::bound_accesses::bound_names::{Env, writer_of};
 use declared_names::{Meant, Own, Use, declares};
-use vba_base::{NoMemory, Place};
+use vba_base::{NoMemory, OrMemory, Place};
+use vba_tree::ProcedureWords;
 
-/// Is a procedure a Sub of no object: does it give no value, and is it no property?
-fn is_sub_routine<'a>(routine: Routine<'a>) -> bool
-    ensures { result ≡ is_module_sub routine.entry.receiver (written_view routine.entry.written).kind }
+/// Is a procedure a Sub: does it give no value, and is it no property?
+pub fn is_sub_kind(words: ProcedureWords) -> bool
+    ensures { result ≡ targets.is_sub_kind words }
 {
-    let words = routine.written.header.words;
-    match routine.receiver {
-        Receiver::Module => !gives_value(words) && !is_property(words),
-        _ => false,
-    }
+    !gives_value(words) && !is_property(words)
 }
 
-/// Is a term a Sub of no object?
+/// Is a term a Sub?
 pub fn is_sub<'a>(term: Term<'a>) -> bool
     ensures { IsSub term.entry result }
 {
     match term {
-        Term::Routine(routine) => is_sub_routine(routine),
+        Term::Routine(routine) => is_sub_kind(routine.written.header.words),
         _ => false,
     }
 }
@@ -89,10 +87,35 @@ pub fn has_let<'a>(env: Env<'a>, term: Term<'a>) -> bool
     }
 }
 
-/// What can't be assigned to, behind the value that it is given.
-pub fn refuse_target(draft: &mut Draft, place: Place) -> Result<ActionKind, NoMemory>
-    ensures { IfOk result (λ kind. RefusesTarget place (draft_view draft.old) (draft_view draft.new) kind) }
+/// A procedure that can't be assigned to or set, or lacks arguments, behind the value or the reference that it is given: this
+/// rule is broken by that and what the procedure is called of.
+pub fn break_procedure(
+    draft: &mut Draft,
+    receiver: Receiver,
+    rule: u8,
+    place: Place,
+) -> Result<ActionKind, OrMemory<NotYet>>
+    ensures { IfOk result (λ kind. BreaksProcedure receiver rule place (draft_view draft.old) (draft_view draft.new) kind) }
 {
-    push_broken(draft, 27, place, 1)?;
+    push_object(draft, receiver)?;
+    let values = sum(values_of(receiver), 1)?;
+    push_broken(draft, rule, place, values)?;
     Ok(ActionKind::Evaluate)
+}
+
+/// What can't be assigned to, behind the value that it is given: a Sub with what it is called of.
+pub fn refuse_target<'a>(
+    draft: &mut Draft,
+    term: Term<'a>,
+    place: Place,
+) -> Result<ActionKind, OrMemory<NotYet>>
+    ensures { IfOk result (λ kind. RefusesTarget term.entry place (draft_view draft.old) (draft_view draft.new) kind) }
+{
+    match term {
+        Term::Routine(routine) => break_procedure(draft, routine.receiver, 27, place),
+        _ => {
+            push_broken(draft, 27, place, 1)?;
+            Ok(ActionKind::Evaluate)
+        }
+    }
 }

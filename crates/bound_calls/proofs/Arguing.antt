@@ -25,7 +25,8 @@ use Rattle.bound_project.proofs.Drafts.{constant_last}
 use Rattle.bound_declarations.specs.constant_values.specs.declared_names.specs.binder.specs.Types.{is_object}
 use Rattle.bound_forms.specs.Terms.{Env, Given, a_place, given_to, taken_by, by_reference, by_copy, is_lent_to, is_copied_to, other_rule, routine_term}
 use Rattle.bound_forms.specs.Terms as plain
-use Rattle.bound_forms.specs.ExpressionsBound.{argument_of, given_as, operand_of, taken_for, term_of, givens, place_told}
+use Rattle.bound_forms.specs.Operands.{argument_of, given_as, operand_of, taken_for, place_told}
+use Rattle.bound_forms.specs.ExpressionsBound.{term_of, givens}
 use Rattle.bound_calls.specs.declared.term.Ending.{Ending}
 use Rattle.bound_calls.specs.declared.term.Term.{Term}
 use Rattle.bound_calls.specs.declared.term.Term.TheVariants as term
@@ -157,12 +158,12 @@ passed_copy p x d e many reference h =
 
 -- what isn't lent
 abbrev pub no_lent : Term → Type 0
-no_lent (term.Place kind of bounded true makes) = ⊥
+no_lent (term.Place kind of bounds true makes) = ⊥
 no_lent x = Unit {0}
 
 -- whether a term is a place that is lent
 abbrev pub lends : plain.Term → Bool
-lends (a_place at of bounded true makes) = true
+lends (a_place at of bounds true makes) = true
 lends y = false
 
 routine_lends : (base : Option bound.Expr) (space : Space) (number : ℕ) (w : Written) → lends (routine_term base space number w) ≡ false
@@ -170,8 +171,8 @@ routine_lends None space number w = refl
 routine_lends (Some b) space number w = refl
 
 pub lends_nothing : (env : Env) (t : Tables) (x : Term) (y : plain.Term) (ps below : List Piece) → no_lent x → TermStands env t x y ps below → lends y ≡ false
-lends_nothing env t (term.Place kind of bounded true makes) y ps below n h = absurd n
-lends_nothing env t (term.Place kind of bounded false makes) y ps below n h = ap lends h.is
+lends_nothing env t (term.Place kind of bounds true makes) y ps below n h = absurd n
+lends_nothing env t (term.Place kind of bounds false makes) y ps below n h = ap lends h.is
 lends_nothing env t (term.Value e) y ps below n h = ap lends h.is
 lends_nothing env t (term.Routine r) y ps below n h = ap lends h.routine.is ∙ routine_lends h.routine.base h.routine.space h.routine.number h.routine.written
 lends_nothing env t (term.Property p) y ps below n h = ap lends h.property.is ∙ routine_lends h.property.base (space_view p.space.now) h.property.number (written_view p.written)
@@ -185,7 +186,7 @@ lends_nothing env t term.ErrorWord y ps below n h = ap lends h.0
 lends_nothing env t term.Nothing y ps below n h = ap lends h
 
 copied_anyway : (env : Env) (p : project.Parameter) (y : plain.Term) (place : Place) (rest : bound.Args) → lends y ≡ false → by_reference (argument_of env) p y place rest ≡ by_copy (argument_of env) p y place rest
-copied_anyway env p (a_place at of bounded true makes) place rest h = let e : true ≡ false = h in absurd cc
+copied_anyway env p (a_place at of bounds true makes) place rest h = let e : true ≡ false = h in absurd cc
 copied_anyway env p y place rest h = refl
 
 -- where a parameter takes a place, and none is lent
@@ -197,23 +198,23 @@ passed_anyway p x d e many reference n h =
     ∙ copied_anyway env (parameter_view p) (term_of env tree) (place_told tree) rest (lends_nothing env d.tables x.term (term_of env tree) d.pieces below n k.term_is))
 
 -- a place is lent
-abbrev by_place : Env → project.Parameter → Lvalue → Declared → (bounded makes : Bool) → Place → bound.Args → (lent copied : Bool) → Option bound.Args
-by_place env p at of bounded makes place rest lent copied =
+abbrev by_place : Env → project.Parameter → Lvalue → Declared → (bounds : ℕ) → (makes : Bool) → Place → bound.Args → (lent copied : Bool) → Option bound.Args
+by_place env p at of bounds makes place rest lent copied =
     if lent then Some (bound.by_place at rest)
-    else if copied then by_copy (argument_of env) p (a_place at of bounded true makes) place rest
+    else if copied then by_copy (argument_of env) p (a_place at of bounds true makes) place rest
     else Some (bound.by_copy (plain.of_other_type at of p.of place) p.of rest)
 
-reference_taken : (env : Env) (p : Parameter) (t : plain.Term) (at : Lvalue) (of : Declared) (bounded makes : Bool) (place : Place) (rest : bound.Args) (lent copied : Bool) → p.is_by_reference ≡ true → t ≡ a_place at of bounded true makes
+reference_taken : (env : Env) (p : Parameter) (t : plain.Term) (at : Lvalue) (of : Declared) (bounds : ℕ) (makes : Bool) (place : Place) (rest : bound.Args) (lent copied : Bool) → p.is_by_reference ≡ true → t ≡ a_place at of bounds true makes
     → is_lent_to of (declared_view p.of) ≡ lent → is_copied_to at of (declared_view p.of) ≡ copied
-    → (if p.is_by_reference then by_reference (argument_of env) (parameter_view p) t place rest else by_copy (argument_of env) (parameter_view p) t place rest) ≡ by_place env (parameter_view p) at of bounded makes place rest lent copied
-reference_taken env p t at of bounded makes place rest lent copied reference is fits copies =
+    → (if p.is_by_reference then by_reference (argument_of env) (parameter_view p) t place rest else by_copy (argument_of env) (parameter_view p) t place rest) ≡ by_place env (parameter_view p) at of bounds makes place rest lent copied
+reference_taken env p t at of bounds makes place rest lent copied reference is fits copies =
     let P = parameter_view p in
     ap (λ b. if b then by_reference (argument_of env) P t place rest else by_copy (argument_of env) P t place rest) reference ∙ ap (λ y. by_reference (argument_of env) P y place rest) is
-    ∙ ap (λ b. by_place env P at of bounded makes place rest b (is_copied_to at of (declared_view p.of))) fits ∙ ap (λ b. by_place env P at of bounded makes place rest lent b) copies
+    ∙ ap (λ b. by_place env P at of bounds makes place rest b (is_copied_to at of (declared_view p.of))) fits ∙ ap (λ b. by_place env P at of bounds makes place rest lent b) copies
 
-passed_place : (p : Parameter) (x : Tree) (kind : NodeKind) (of : DeclaredType) (bounded makes : Bool) (d e : Drafted) → p.is_param_array ≡ false → p.is_by_reference ≡ true → x.term ≡ term.Place kind of bounded true makes
+passed_place : (p : Parameter) (x : Tree) (kind : NodeKind) (of : DeclaredType) (bounds : ℕ) (makes : Bool) (d e : Drafted) → p.is_param_array ≡ false → p.is_by_reference ≡ true → x.term ≡ term.Place kind of bounds true makes
     → is_lent_to (declared_view of) (declared_view p.of) ≡ true → Lends kind d e → PassesTree p x d e
-passed_place p x kind of bounded makes d e many reference is fits h = record {
+passed_place p x kind of bounds makes d e many reference is fits h = record {
   grown = h.grown;
   stands = λ env tree below k.
       let A : Term → Type 0 = λ y. TermStands env d.tables y (term_of env tree) d.pieces below in
@@ -223,7 +224,7 @@ passed_place p x kind of bounded makes d e many reference is fits h = record {
         taken = record {
           no_name = refl;
           no_list = many;
-          makes = λ rest. reference_taken env p (term_of env tree) s.at (declared_view of) bounded makes (place_told tree) rest true (is_copied_to s.at (declared_view of) (declared_view p.of)) reference s.is fits refl;
+          makes = λ rest. reference_taken env p (term_of env tree) s.at (declared_view of) bounds makes (place_told tree) rest true (is_copied_to s.at (declared_view of) (declared_view p.of)) reference s.is fits refl;
         };
         on_top = h.stands s.at below s.ends;
       };
@@ -251,14 +252,14 @@ copied_to : (t : Tables) (kind : NodeKind) (of parameter : DeclaredType) (at : L
 copied_to t kind of parameter at ps below h ends =
     either_holds (is_object (declared_view of) && is_object (declared_view parameter)) (may_be_item kind) (plain.may_be_item at) (λ k. may_be t kind at ps below k ends) h
 
-placed_copy : (p : Parameter) (x : Tree) (kind : NodeKind) (of : DeclaredType) (bounded makes : Bool) (d e : Drafted) → p.is_param_array ≡ false → p.is_by_reference ≡ true → x.term ≡ term.Place kind of bounded true makes
+placed_copy : (p : Parameter) (x : Tree) (kind : NodeKind) (of : DeclaredType) (bounds : ℕ) (makes : Bool) (d e : Drafted) → p.is_param_array ≡ false → p.is_by_reference ≡ true → x.term ≡ term.Place kind of bounds true makes
     → is_lent_to (declared_view of) (declared_view p.of) ≡ false → is_copied kind of p.of ≡ true → Copies p.of x d e → PassesTree p x d e
-placed_copy p x kind of bounded makes d e many reference is fits copies h =
+placed_copy p x kind of bounds makes d e many reference is fits copies h =
     copy_taken p x d e many h (λ env tree below k rest.
     let A : Term → Type 0 = λ y. TermStands env d.tables y (term_of env tree) d.pieces below in
     let s = subst A is k.term_is in
     let place = place_told tree in
-    reference_taken env p (term_of env tree) s.at (declared_view of) bounded makes place rest false true reference s.is fits (copied_to d.tables kind of p.of s.at d.pieces below copies s.ends)
+    reference_taken env p (term_of env tree) s.at (declared_view of) bounds makes place rest false true reference s.is fits (copied_to d.tables kind of p.of s.at d.pieces below copies s.ends)
     ∙ ap (λ y. by_copy (argument_of env) (parameter_view p) y place rest) (sym s.is))
 
 neither_holds : (a b c : Bool) → (b ≡ false → not c ≡ true) → (a || b) ≡ false → (a || c) ≡ false
@@ -271,9 +272,9 @@ not_copied_to : (t : Tables) (kind : NodeKind) (of parameter : DeclaredType) (at
 not_copied_to t kind of parameter at ps below h ends =
     neither_holds (is_object (declared_view of) && is_object (declared_view parameter)) (may_be_item kind) (plain.may_be_item at) (λ k. no_item t kind at ps below k ends) h
 
-placed_other : (p : Parameter) (x : Tree) (lent : Ending) (bounded makes : Bool) (d e : Drafted) → p.is_param_array ≡ false → p.is_by_reference ≡ true → x.term ≡ term.Place lent.kind lent.of bounded true makes
+placed_other : (p : Parameter) (x : Tree) (lent : Ending) (bounds : ℕ) (makes : Bool) (d e : Drafted) → p.is_param_array ≡ false → p.is_by_reference ≡ true → x.term ≡ term.Place lent.kind lent.of bounds true makes
     → is_lent_to (declared_view lent.of) (declared_view p.of) ≡ false → is_copied lent.kind lent.of p.of ≡ false → MarksOther lent p.of x.place d e → PassesTree p x d e
-placed_other p x lent bounded makes d e many reference is fits copies h = record {
+placed_other p x lent bounds makes d e many reference is fits copies h = record {
   grown = h.grown;
   stands = λ env tree below k.
       let A : Term → Type 0 = λ y. TermStands env d.tables y (term_of env tree) d.pieces below in
@@ -284,7 +285,7 @@ placed_other p x lent bounded makes d e many reference is fits copies h = record
         taken = record {
           no_name = refl;
           no_list = many;
-          makes = λ rest. reference_taken env p (term_of env tree) s.at (declared_view lent.of) bounded makes (place_told tree) rest false false reference s.is fits (not_copied_to d.tables lent.kind lent.of p.of s.at d.pieces below copies s.ends);
+          makes = λ rest. reference_taken env p (term_of env tree) s.at (declared_view lent.of) bounds makes (place_told tree) rest false false reference s.is fits (not_copied_to d.tables lent.kind lent.of p.of s.at d.pieces below copies s.ends);
         };
         on_top = h.stands s.at below s.ends
             ∙ ap (λ place. an_argument (value_copied (plain.of_other_type s.at (declared_view lent.of) (declared_view p.of) place) (declared_view p.of)) ∷ below) k.place_is;
@@ -297,8 +298,8 @@ some_of x y h = ap (λ o. unwrap_or o x) h
 none_of : (x : Ending) → None ≡ Some x → ⊥
 none_of x h = subst T (ap (λ (o : Option Ending). is_some o) (sym h)) tt
 
-pub lent_is : (x : Term) (lent : Ending) → lent_in x ≡ Some lent → (bounded : Bool) × ((makes : Bool) × (x ≡ term.Place lent.kind lent.of bounded true makes))
-lent_is (term.Place kind of bounded true makes) lent h = (bounded, (makes, ap (λ (o : Ending). term.Place o.kind o.of bounded true makes) (some_of (record { kind = kind; of = of }) lent h)))
+pub lent_is : (x : Term) (lent : Ending) → lent_in x ≡ Some lent → (bounds : ℕ) × ((makes : Bool) × (x ≡ term.Place lent.kind lent.of bounds true makes))
+lent_is (term.Place kind of bounds true makes) lent h = (bounds, (makes, ap (λ (o : Ending). term.Place o.kind o.of bounds true makes) (some_of (record { kind = kind; of = of }) lent h)))
 lent_is x lent h = absurd (none_of lent h)
 
 pub lent_named : (t : Tables) (x : Term) (lent : Ending) → lent_in x ≡ Some lent → TermNamed t x → NodeNamed t lent.kind
@@ -317,8 +318,8 @@ pub passed_other : (p : Parameter) (x : Tree) (lent : Ending) (d e : Drafted) �
 passed_other p x lent d e many reference is fits copies h = let at = lent_is x.term lent is in placed_other p x lent at.0 at.1.0 d e many reference at.1.1 fits copies h
 
 pub nothing_lent : (x : Term) → lent_in x ≡ None → no_lent x
-nothing_lent (term.Place kind of bounded true makes) h = none_of (record { kind = kind; of = of }) (sym h)
-nothing_lent (term.Place kind of bounded false makes) h = tt
+nothing_lent (term.Place kind of bounds true makes) h = none_of (record { kind = kind; of = of }) (sym h)
+nothing_lent (term.Place kind of bounds false makes) h = tt
 nothing_lent (term.Value e) h = tt
 nothing_lent (term.Routine r) h = tt
 nothing_lent (term.Property p) h = tt

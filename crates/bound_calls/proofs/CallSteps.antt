@@ -25,10 +25,12 @@ use Rattle.bound_project.proofs.Drafts.{Extends}
 use Rattle.vba_values.specs.Types.{Declared}
 use Rattle.bound_declarations.specs.constant_values.specs.declared_names.specs.binder.specs.Declarations.{Written}
 use Rattle.bound_declarations.specs.constant_values.specs.declared_names.specs.binder.specs.Scopes.{Space}
-use Rattle.bound_forms.specs.Terms.{Env, Given, routine_term}
+use Rattle.bound_forms.specs.Terms.{Env, Given, a_value, bound_arguments, routine_term}
 use Rattle.bound_forms.specs.Terms as plain_terms
 use Rattle.bound_forms.specs.ClassDefaults.{declared_in}
-use Rattle.bound_forms.specs.ExpressionsBound.{along_value, taken_by_term, argument_of, call_with, callee, indexed, item_of, operand_of, term_of, givens, place_told, term_or, wrong_term, call_node}
+use Rattle.bound_forms.specs.Operands.{argument_of, bare_call, place_told, term_or, call_node}
+use Rattle.bound_forms.specs.Members.{item_of}
+use Rattle.bound_forms.specs.ExpressionsBound.{taken_by_term, call_with, callee, indexed, term_of, givens, wrong_term}
 use Rattle.bound_calls.specs.declared.term.Ending.{Ending}
 use Rattle.bound_calls.specs.declared.term.Routine.{Routine}
 use Rattle.bound_calls.specs.declared.term.Term.{Term}
@@ -47,7 +49,7 @@ use Rattle.bound_calls.specs.Indexing.{AddsArgument, Closes}
 use Rattle.bound_calls.proofs.Growing.{all_named, stands_grows, grown_pieces, grown_same, grown_twice}
 use Rattle.bound_calls.proofs.Arguing.{left_long, behind}
 use Rattle.bound_calls.proofs.Passing.{arguments_bound}
-use Rattle.bound_calls.proofs.Reading.{call_is}
+use Rattle.bound_calls.proofs.Reading.{bare_is, call_is}
 use Rattle.bound_project.specs.declared.node.NodeKind.{NodeKind}
 use Rattle.bound_project.specs.declared.declared_type.DeclaredType.{DeclaredType}
 use Rattle.bound_project.specs.Project.{nowhere}
@@ -92,40 +94,38 @@ call_taken t (receiver.Pushed of) None procedure count args ps there below is on
 call_taken t (receiver.Pushed of) (Some e) procedure count args ps there below is on taken n =
     ap (λ o. of_object_found (λ x xs. expr_of n (bound.method x procedure xs)) o) taken ∙ ap (λ st. of_object (λ x xs. expr_of n (bound.method x procedure xs)) args st) on
 
--- arguments that were pushed, and the others
-call_made : (value : Declared → plain_terms.Term → Place → Option bound.Expr) (number_of along : plain_terms.Term → Place → Option bound.Expr) (env : Env) (t : Tables) (r : Routine) (x : Passed) (d e : Drafted) (ending : Ending) (y : plain_terms.Term) (place : Place) (gs : List Given) (xs : List Argument)
+-- arguments that were pushed, and the others, of what is a call of all of them
+call_made : (value : Declared → plain_terms.Term → Place → Option bound.Expr) (env : Env) (t : Tables) (r : Routine) (x : Passed) (d e : Drafted) (ending : Ending) (y z : plain_terms.Term) (gs : List Given) (xs : List Argument)
     (there below : List Piece) → EndsCall r x d e ending → (s : RoutineIs env r y) → ReceiverThere s.base there below → AllTaken value (map parameter_view r.parameters.now) gs xs (map parameter_view x.left.now) → x.count ≡ length xs
-    → d.pieces ≡ above (map an_argument xs) there → ValueStands t ending (call_with value number_of along env place gs s.base s.space s.number s.written) e.pieces below
-call_made value number_of along env t r x d e ending y place gs xs there below h s on taken counted on_top =
+    → d.pieces ≡ above (map an_argument xs) there
+    → ((args : bound.Args) → bound_arguments value (map parameter_view r.parameters.now) gs ≡ Some args → z ≡ a_value (call_node s.base r.procedure args) (declared_view r.of)) → ValueStands t ending z e.pieces below
+call_made value env t r x d e ending y z gs xs there below h s on taken counted on_top is =
     let args = args_of (xs ++ h.made) in
-    let P : Ending → Type 0 = λ z. ValueStands t z (call_with value number_of along env place gs s.base s.space s.number s.written) e.pieces below in
+    let P : Ending → Type 0 = λ v. ValueStands t v z e.pieces below in
     subst P (sym h.ending_is) (record {
       made = call_node s.base r.procedure args;
-      is = call_is value number_of along env place gs s.base s.space s.number s.written s.read r.procedure (declared_view r.of) (map parameter_view r.parameters.now) args xs (map parameter_view x.left.now) s.reads s.procedure_is s.parameters_are s.of_is taken
-          (arguments_bound value (map parameter_view r.parameters.now) gs xs (map parameter_view x.left.now) h.made taken h.left);
+      is = is args (arguments_bound value (map parameter_view r.parameters.now) gs xs (map parameter_view x.left.now) h.made taken h.left);
       ends = call_taken t r.receiver s.base r.procedure (x.count + length h.made) args e.pieces there below s.received on
           (arguments_taken (x.count + length h.made) xs h.made e.pieces d.pieces there (omega (arith, counted)) on_top h.on_top);
     })
 
 -- brackets behind a procedure are its arguments
 pub taken_routine : (env : Env) (place : Place) (base : Option bound.Expr) (space : Space) (number : ℕ) (w : Written) (gs : List Given)
-    → taken_by_term env place (routine_term base space number w) gs ≡ call_with (argument_of env) (operand_of env) (along_value env) env place gs base space number w
+    → taken_by_term env place (routine_term base space number w) gs ≡ call_with env place gs base space number w
 taken_routine env place None space number w gs = refl
 taken_routine env place (Some b) space number w gs = refl
 
--- the value that a call with arguments in brackets gives
 -- the value that a call with arguments in brackets gives
 pub call_stands : (env : Env) (t : Tables) (r : Routine) (x : Passed) (d e : Drafted) (ending : Ending) (y : plain_terms.Term) (place : Place) (args : Args) (there below : List Piece) → EndsCall r x d e ending
     → (s : RoutineIs env r y) → ReceiverThere s.base there below → PassedStands env (map parameter_view r.parameters.now) x args d.pieces there → ValueStands t ending (indexed env place y (givens env args)) e.pieces below
 call_stands env t r x d e ending y place args there below h s on p =
     let z = routine_term s.base s.space s.number s.written in
     let gs = givens env args in
-    let v = call_made (argument_of env) (operand_of env) (along_value env) env t r x d e ending y place gs p.made there below h s on p.taken p.count_is p.on_top in
-    record {
-      made = v.made;
-      is = ap (λ w. indexed env place w gs) s.is ∙ ap (λ w. term_or w (wrong_term env place z gs)) (taken_routine env place s.base s.space s.number s.written gs ∙ v.is);
-      ends = v.ends;
-    }
+    let ps = map parameter_view r.parameters.now in
+    call_made (argument_of env) env t r x d e ending y (indexed env place y gs) gs p.made there below h s on p.taken p.count_is p.on_top
+    (λ all given. ap (λ w. indexed env place w gs) s.is
+    ∙ ap (λ w. term_or w (wrong_term env place z gs)) (taken_routine env place s.base s.space s.number s.written gs
+    ∙ call_is env place gs s.base s.space s.number s.written s.read r.procedure (declared_view r.of) ps all p.made (map parameter_view x.left.now) s.reads s.procedure_is s.parameters_are s.of_is p.taken given))
 
 pub call_named : (t : Tables) (r : Receiver) (procedure count : ℕ) → NodeNamed t (call_kind r procedure count)
 call_named t receiver.Module procedure count = tt
@@ -145,7 +145,8 @@ routine_stands r x d m e ending left count p h env y below s =
       number = u.number;
       written = u.written;
       is = u.is;
-      called = call_made (λ of t place. None) (λ t place. None) (λ t place. None) env e.tables r x m e ending y u.written.place [] [] m.pieces below h u (p.there u.base below u.received s.pushed) (ap (λ l. map parameter_view l) (sym left)) count refl;
+      called = call_made (argument_of env) env e.tables r x m e ending y (bare_call env u.base u.space u.number u.written) [] [] m.pieces below h u (p.there u.base below u.received s.pushed) (ap (λ l. map parameter_view l) (sym left)) count refl
+          (λ all given. bare_is env u.base u.space u.number u.written u.read r.procedure (declared_view r.of) (map parameter_view r.parameters.now) all u.reads u.procedure_is u.parameters_are u.of_is given);
     }
 
 pub calls_routine : (r : Routine) (x : Passed) (d m e : Drafted) (ending : Ending) → x.left.now ≡ r.parameters.now → x.count ≡ 0 → PushesReceiver r.receiver d m → EndsCall r x m e ending → CallsRoutine r d e ending

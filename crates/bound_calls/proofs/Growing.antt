@@ -1,5 +1,6 @@
 -- What stands on a stack stands there still when the tables of the draft grow.
-use Rattle.std.proofs.Common.{◌≡◌, ℕ, ◌<◌, length, map, List, [], ◌∷◌, Option, None, Some, if◌then◌else◌, refl, sym, ap, subst, ◌∙◌, arith}
+use Rattle.std.proofs.Common.{◌≡◌, Bool, false, true, ℕ, ◌<◌, length, map, List, [], ◌∷◌, Option, None, Some, if◌then◌else◌, refl, sym, ap, subst, ◌∙◌, arith}
+use Rattle.vba_base.specs.declared.place.Place.{Place}
 use Rattle.vba_values.specs.Val.{Val}
 use Rattle.vba_expression.specs.Tree.{Expr, Args, no_args, missing, plain, named}
 use Rattle.vba_expression.specs.Nodes as nodes
@@ -17,7 +18,8 @@ use Rattle.bound_project.proofs.Drafts.{Extends, by_name_same, constant_extends,
 use Rattle.vba_values.specs.Types as type
 use Rattle.bound_forms.specs.Terms.{Env, a_host_member, expression_of}
 use Rattle.bound_forms.specs.Terms as terms
-use Rattle.bound_forms.specs.ExpressionsBound.{arguments_rule, givens, member_takes, term_of}
+use Rattle.bound_forms.specs.Operands.{place_told}
+use Rattle.bound_forms.specs.ExpressionsBound.{arguments_rule, callee, givens, member_takes, term_of}
 use Rattle.bound_calls.specs.declared.term.Term.{Term}
 use Rattle.bound_calls.specs.declared.term.Term.TheVariants as term
 use Rattle.bound_calls.specs.declared.term.HostMember.{HostMember}
@@ -30,7 +32,7 @@ use Rattle.bound_calls.specs.declared.term.Refuser.TheVariants as refuser
 use Rattle.bound_calls.specs.declared.term.Untaken.{Untaken}
 use Rattle.bound_calls.specs.declared.term.Item.{Item}
 use Rattle.bound_calls.specs.declared.term.Item.TheVariants as item
-use Rattle.bound_calls.specs.Standing.{ArgumentsStand, LateStands, TermStands, TreeStands, MemberStands, NamesCame, UntakenStands, ValuesStand, looked_for, member_is, names_looked, names_told, refused_rule, Stands, TermNamed, AreNamed, ItemNamed, LookedNamed, MemberNamed, RefuserNamed, AllNamed, Grown, Base}
+use Rattle.bound_calls.specs.Standing.{ArgumentsStand, LateStands, TakesMember, TermStands, TreeStands, MemberStands, NamesCame, UntakenStands, ValuesStand, looked_for, member_is, names_looked, names_told, refused_rule, Stands, TermNamed, AreNamed, ItemNamed, LookedNamed, MemberNamed, RefuserNamed, AllNamed, Grown, Base}
 
 pub extends_same : (t : Tables) → Extends t t
 extends_same t = record {
@@ -67,7 +69,7 @@ pub grown_constant : (d : Drafted) (v : Val) → Grown d (record d { tables = wi
 grown_constant d v = record { tables = constant_extends d.tables v; statements = refl; bodies = refl }
 
 pub term_named : (t u : Tables) → Extends t u → (x : Term) → TermNamed t x → TermNamed u x
-term_named t u e (term.Place kind of bounded lends makes) h = node_named t u e kind h
+term_named t u e (term.Place kind of bounds lends makes) h = node_named t u e kind h
 term_named t u e (term.Value ending) h = node_named t u e ending.kind h
 term_named t u e (term.HostMember m) h = omega (arith, e.constants_more)
 term_named t u e (term.SheetMember m) h = omega (arith, e.constants_more)
@@ -88,6 +90,7 @@ names_are_named t (looked.Late aim found) h = h.1.0
 
 pub refuser_named : (t u : Tables) → Extends t u → (x : Refuser) → RefuserNamed t x → RefuserNamed u x
 refuser_named t u e (refuser.Member m) h = omega (arith, e.constants_more)
+refuser_named t u e (refuser.Behind m) h = omega (arith, e.constants_more)
 refuser_named t u e x h = tt
 
 pub item_named : (t u : Tables) → Extends t u → (x : Item) → ItemNamed t x → ItemNamed u x
@@ -111,7 +114,7 @@ member_same t u e m h = ap named (sym (name_same t u e m.name h))
     named n = record { name = n; of = declared_view m.of; least = m.least; greatest = m.greatest; late = m.is_late }
 
 pub term_grows : (env : Env) (t u : Tables) → Extends t u → (x : Term) → TermNamed t x → (y : terms.Term) (ps below : List Piece) → TermStands env t x y ps below → TermStands env u x y ps below
-term_grows env t u e (term.Place kind of bounded lends makes) k y ps below h = record { at = h.at; is = h.is; ends = λ n. put_same t u e n kind k ps ∙ h.ends n }
+term_grows env t u e (term.Place kind of bounds lends makes) k y ps below h = record { at = h.at; is = h.is; ends = λ n. put_same t u e n kind k ps ∙ h.ends n }
 term_grows env t u e (term.Value ending) k y ps below h = record { made = h.made; is = h.is; ends = λ n. put_same t u e n ending.kind k ps ∙ h.ends n }
 term_grows env t u e (term.Routine r) k y ps below h = h
 term_grows env t u e (term.Property p) k y ps below h = h
@@ -167,12 +170,17 @@ arguments_grow : (l : Looked) (env : Env) (t u : Tables) → Extends t u → (x 
 arguments_grow (looked.Early names given) env t u e x h k object gs ps below s = values_grow env t u e x names given h k object gs ps below s
 arguments_grow (looked.Late aim found) env t u e x h k object gs ps below s = late_grows env t u e x aim found k object gs ps below s
 
+pub takes_member_as : (of_property : Bool) (env : Env) (place : Place) (x member other : terms.Term) → member ≡ other → TakesMember of_property env place x member → TakesMember of_property env place x other
+takes_member_as false env place x member other same h = h ∙ same
+takes_member_as true env place x member other same h = λ g gs. h g gs ∙ same
+
 pub member_grows : (env : Env) (t u : Tables) → Extends t u → (x : MemberCall) → MemberNamed t x → (tree : Expr) (args : Args) (ps below : List Piece) → MemberStands env t x tree args ps below → MemberStands env u x tree args ps below
 member_grows env t u e x k tree args ps below h =
     let N : List (List ℕ) → Type 0 = λ (names : List (List ℕ)). NamesCame names x.named (givens env args) in
     record {
       object = h.object;
-      is = h.is ∙ ap (λ z. a_host_member h.object z) (member_same t u e x.member k.0);
+      is = takes_member_as x.of_property env (place_told tree) (callee env tree (term_of env tree)) (a_host_member h.object (member_is t x.member)) (a_host_member h.object (member_is u x.member))
+          (ap (λ z. a_host_member h.object z) (member_same t u e x.member k.0)) h.is;
       place_is = h.place_is;
       classes = h.classes;
       names = subst N (sym (told_same t u e (names_looked x.looked) (names_are_named t x.looked k.1))) h.names;
@@ -181,11 +189,13 @@ member_grows env t u e x k tree args ps below h =
 
 -- what doesn't take its arguments
 rule_same : (t u : Tables) → Extends t u → (x : Refuser) → RefuserNamed t x → (gs : List terms.Given) → refused_rule u x gs ≡ refused_rule t x gs
-rule_same t u e (refuser.Procedure ps) h gs = refl
-rule_same t u e (refuser.Value of) h gs = refl
+rule_same t u e (refuser.Procedure values ps of) h gs = refl
+rule_same t u e (refuser.Value of bounds) h gs = refl
 rule_same t u e (refuser.Called of) h [] = refl
 rule_same t u e (refuser.Called of) h (g ∷ gs) = refl
 rule_same t u e (refuser.Member m) h gs = ap (λ (y : terms.HostMember). if member_takes y gs then None else arguments_rule y) (sym (member_same t u e m h))
+rule_same t u e (refuser.Behind m) h [] = refl
+rule_same t u e (refuser.Behind m) h (g ∷ gs) = ap (λ (y : terms.HostMember). if member_takes y (g ∷ gs) then None else arguments_rule y) (sym (member_same t u e m h))
 rule_same t u e refuser.Bare h [] = refl
 rule_same t u e refuser.Bare h (g ∷ gs) = refl
 rule_same t u e (refuser.Led rule count) h gs = refl

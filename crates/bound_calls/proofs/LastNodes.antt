@@ -14,7 +14,7 @@ use Rattle.bound_project.specs.Project.{nowhere}
 use Rattle.bound_project.specs.View.{base_view, declared_view}
 use Rattle.bound_declarations.specs.constant_values.specs.declared_names.specs.binder.specs.Constants.{is_variant}
 use Rattle.bound_declarations.specs.constant_values.specs.declared_names.specs.binder.specs.Classes.{has_class}
-use Rattle.bound_forms.specs.ExpressionsBound.{may_be_object, may_give_object, is_instance_type, is_item_name, is_of_class, is_of_host, may_be_instance}
+use Rattle.bound_forms.specs.Operands.{may_be_object, may_give_object, is_instance_type, is_item_name, is_of_class, is_of_host, may_be_instance}
 use Rattle.bound_forms.specs.Terms.{expression_of}
 use Rattle.bound_calls.specs.declared.term.Ending.{Ending}
 use Rattle.bound_calls.specs.References.{EndingGives, IsFoundLate, IsInstance, ends_known, kind_gives, known_instance, known_object, NoInstance, instance_at, is_of_host_kind, may_be_instance_by, unknown_may}

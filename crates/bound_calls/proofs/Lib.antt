@@ -6,6 +6,7 @@ pub mod TypedNodes
 pub mod Referring
 pub mod Refusing
 pub mod Lacking
+pub mod Before
 pub mod Shaping
 pub mod ShapeSteps
 pub mod Steps

@@ -33,7 +33,8 @@ use Rattle.bound_forms.specs.Terms.{Env, Given, a_value, bound_arguments, parame
 use Rattle.bound_forms.specs.Terms as plain_terms
 use Rattle.bound_forms.specs.ClassDefaults.{declared_in}
 use Rattle.bound_declarations.specs.constant_values.specs.declared_names.specs.binder.specs.Signatures.{is_get, reader, parameters_in, call_type}
-use Rattle.bound_forms.specs.ExpressionsBound.{along_value, call_value, call_with, if_there, indexes_value, indexed_value, node_or, argument_of, callee, indexed, operand_of, term_of, givens, place_told, term_or, wrong_term, call_node}
+use Rattle.bound_forms.specs.Operands.{argument_of, place_told, term_or, call_node}
+use Rattle.bound_forms.specs.ExpressionsBound.{call_with, indexes_value, callee, indexed, term_of, givens, wrong_term}
 use Rattle.bound_calls.specs.declared.term.Ending.{Ending}
 use Rattle.bound_calls.specs.declared.term.Routine.{Routine}
 use Rattle.bound_calls.specs.declared.term.Term.TheVariants as term
@@ -51,6 +52,7 @@ use Rattle.bound_calls.specs.InOrder.{is_there, all_apart, counted_from, places_
 use Rattle.bound_calls.proofs.Growing.{grown_same, grown_twice, all_named, stands_grows}
 use Rattle.bound_calls.proofs.Arguing.{left_long}
 use Rattle.bound_calls.proofs.CallSteps.{above_both, parameters_long, routine_item, taken_routine}
+use Rattle.bound_calls.proofs.Reading.{called_valued}
 use Rattle.bound_calls.proofs.InOrder.{named_bound}
 use Rattle.bound_calls.specs.declared.term.Receiver.{Receiver}
 use Rattle.bound_calls.specs.declared.term.Receiver.TheVariants as receiver
@@ -443,20 +445,15 @@ some_written value s takes [] [] (x ∷ xs) left n g ns ks ys t h = absurd t
 some_written value s takes [] (f ∷ gs) xs left n g ns ks ys t h = absurd t
 some_written value s takes (q ∷ qs) gs xs left n g ns ks ys t h = ne_eqb (length (q ∷ qs)) 0 (λ (e : length (q ∷ qs) ≡ 0). omega (arith, e))
 
-no_index : (value : Declared → plain_terms.Term → Place → Option bound.Expr) (w : Written) (gs : List Given) → (length w.parameters == 0) ≡ false → indexes_value w gs ≡ false
-no_index value w [] h = refl
-no_index value w (g ∷ gs) h = ap (λ b. is_get w.kind && b) h ∙ and_no (is_get w.kind)
+no_index : (w : Written) (gs : List Given) → (length w.parameters == 0) ≡ false → indexes_value w gs ≡ false
+no_index w [] h = refl
+no_index w (g ∷ gs) h = ap (λ b. is_get w.kind && b) h ∙ and_no (is_get w.kind)
 
-pub call_is : (value : Declared → plain_terms.Term → Place → Option bound.Expr) (number_of along : plain_terms.Term → Place → Option bound.Expr) (env : Env) (place : Place) (gs : List Given) (base : Option bound.Expr) (space : Space) (number : ℕ) (w : Written) (read : ℕ × Written) (procedure : ℕ) (of : Declared) (parameters : List project.Parameter)
+pub call_is : (env : Env) (place : Place) (gs : List Given) (base : Option bound.Expr) (space : Space) (number : ℕ) (w : Written) (read : ℕ × Written) (procedure : ℕ) (of : Declared) (parameters : List project.Parameter)
     (args : bound.Args) → reader env.scope space number w ≡ Some read → procedure ≡ procedure_number env.scope space read.0 → parameters ≡ parameters_in env.scope space read.1 → of ≡ call_type env.scope space read.1
-    → (length read.1.parameters == 0) ≡ false → bound_arguments value parameters gs ≡ Some args → call_with value number_of along env place gs base space number w ≡ a_value (call_node base procedure args) of
-call_is value number_of along env place gs base space number w read procedure of parameters args reads number_is parameters_are of_is some given =
-    let all : bound_arguments value (parameters_in env.scope space read.1) gs ≡ Some args = ap (λ l. bound_arguments value l gs) (sym parameters_are) ∙ given in
-    let called_as : ℕ × Written → plain_terms.Term = λ (f : ℕ × Written).
-    if indexes_value f.1 gs then node_or (call_value env base space f.0 f.1 (Some bound.no_args)) (λ n u. indexed_value number_of along env place n u gs)
-    else call_value env base space f.0 f.1 (bound_arguments value (parameters_in env.scope space f.1) gs) in
-    let found : call_with value number_of along env place gs base space number w ≡ called_as read = ap (λ o. if_there (option_map called_as o)) reads in
-    found ∙ rw (no_index value read.1 gs some, all, number_is, of_is) refl
+    → (length read.1.parameters == 0) ≡ false → bound_arguments (argument_of env) parameters gs ≡ Some args → call_with env place gs base space number w ≡ a_value (call_node base procedure args) of
+call_is env place gs base space number w read procedure of parameters args reads number_is parameters_are of_is some given =
+    called_valued env place gs base space number w read procedure of parameters args reads number_is parameters_are of_is (no_index read.1 gs some) given
 
 names_long : (value : Declared → plain_terms.Term → Place → Option bound.Expr) (n : ℕ) (ps : List project.Parameter) (gs : List Given) (ks : List ℕ) (xs : List Argument) → AllNamedTaken value n ps gs ks xs → length ks ≡ length xs
 names_long value n ps [] [] [] h = refl
@@ -519,7 +516,7 @@ call_stands env t r x d e named ending y place gs xs g ns ys between there below
     subst P (sym h.ending_is) (record {
       made = call_node s.base r.procedure args;
       is = ap (λ w. indexed env place w all) s.is ∙ ap (λ w. term_or w (wrong_term env place z all)) (taken_routine env place s.base s.space s.number s.written all
-          ∙ call_is value (operand_of env) (along_value env) env place all s.base s.space s.number s.written s.read r.procedure (declared_view r.of) ps args s.reads s.procedure_is s.parameters_are s.of_is some m.bound);
+          ∙ call_is env place all s.base s.space s.number s.written s.read r.procedure (declared_view r.of) ps args s.reads s.procedure_is s.parameters_are s.of_is some m.bound);
       ends = call_ends t r.receiver s.base r.procedure o.arguments o.order m.places m.all e.pieces there below s.received on m.arguments_is m.order_is m.on_top;
     })
 

@@ -18,8 +18,10 @@ use Rattle.bound_declarations.specs.constant_values.specs.declared_names.specs.b
 use Rattle.bound_forms.specs.Terms.{Env, Given, routine_term, a_value, bound_arguments}
 use Rattle.bound_forms.specs.Terms as plain
 use Rattle.bound_declarations.specs.constant_values.specs.declared_names.specs.binder.specs.Signatures.{is_get, reader, parameters_in, call_type, writer}
-use Rattle.bound_forms.specs.ExpressionsBound.{behind_base, call_node, call_value, call_with, if_there, indexes_value, indexed_value, node_or, argument_of}
-use Rattle.bound_forms.specs.StatementsBound.{given_behind, property_given, assigned, broken_target, let_to, untaken}
+use Rattle.bound_forms.specs.Operands.{bare_call, behind_base, call_node, call_value, if_there, argument_of}
+use Rattle.bound_forms.specs.Members.{item_of}
+use Rattle.bound_forms.specs.ExpressionsBound.{call_with, indexes_value, node_or, value_indexed}
+use Rattle.bound_forms.specs.Targets.{given_behind, property_given, assigned, broken_target, let_to, untaken}
 use Rattle.bound_calls.specs.Passing.{AllTaken}
 
 and_no : (b : Bool) → (b && false) ≡ false
@@ -36,17 +38,54 @@ no_index : (value : Declared → plain.Term → Place → Option bound.Expr) (s 
 no_index value s w [] xs left t = refl
 no_index value s w (g ∷ gs) xs left t = ap (λ b. is_get w.kind && b) (some_written value s _ w.parameters g gs xs left t) ∙ and_no (is_get w.kind)
 
-pub call_is : (value : Declared → plain.Term → Place → Option bound.Expr) (number_of along : plain.Term → Place → Option bound.Expr) (env : Env) (place : Place) (gs : List Given) (base : Option bound.Expr) (space : Space) (number : ℕ) (w : Written) (read : ℕ × Written) (procedure : ℕ) (of : Declared) (parameters : List project.Parameter)
+-- a call of what is read, with all its arguments
+pub call_valued : (env : Env) (base : Option bound.Expr) (space : Space) (read : ℕ × Written) (procedure : ℕ) (of : Declared) (args : bound.Args) → procedure ≡ procedure_number env.scope space read.0 → of ≡ call_type env.scope space read.1
+    → call_value env base space read.0 read.1 (Some args) ≡ a_value (call_node base procedure args) of
+call_valued env base space read procedure of args number_is of_is =
+    ap (λ k. a_value (call_node base k args) (call_type env.scope space read.1)) (sym number_is) ∙ ap (λ u. a_value (call_node base procedure args) u) (sym of_is)
+
+-- what stands behind a procedure is what its arguments make of it, or what indexes its value
+abbrev pub called_as : Env → Place → List Given → Option bound.Expr → Space → ℕ × Written → plain.Term
+called_as env place gs base space f =
+    if indexes_value f.1 gs then node_or (call_value env base space f.0 f.1 (Some bound.no_args)) (λ node of. value_indexed env place (item_of env place (a_value node of)) gs)
+    else call_value env base space f.0 f.1 (bound_arguments (argument_of env) (parameters_in env.scope space f.1) gs)
+
+pub called_found : (env : Env) (place : Place) (gs : List Given) (base : Option bound.Expr) (space : Space) (number : ℕ) (w : Written) (read : ℕ × Written) → reader env.scope space number w ≡ Some read
+    → call_with env place gs base space number w ≡ called_as env place gs base space read
+called_found env place gs base space number w read reads = ap (λ o. if_there (option_map (called_as env place gs base space) o)) reads
+
+-- with arguments that don't index a value it is a call
+pub called_valued : (env : Env) (place : Place) (gs : List Given) (base : Option bound.Expr) (space : Space) (number : ℕ) (w : Written) (read : ℕ × Written) (procedure : ℕ) (of : Declared) (parameters : List project.Parameter)
+    (args : bound.Args) → reader env.scope space number w ≡ Some read → procedure ≡ procedure_number env.scope space read.0 → parameters ≡ parameters_in env.scope space read.1
+    → of ≡ call_type env.scope space read.1 → indexes_value read.1 gs ≡ false → bound_arguments (argument_of env) parameters gs ≡ Some args
+    → call_with env place gs base space number w ≡ a_value (call_node base procedure args) of
+called_valued env place gs base space number w read procedure of parameters args reads number_is parameters_are of_is none given =
+    let indexed_as : plain.Term = node_or (call_value env base space read.0 read.1 (Some bound.no_args)) (λ node of. value_indexed env place (item_of env place (a_value node of)) gs) in
+    let call_as : Option bound.Args → plain.Term = λ o. call_value env base space read.0 read.1 o in
+    called_found env place gs base space number w read reads
+    ∙ ap (λ b. if b then indexed_as else call_as (bound_arguments (argument_of env) (parameters_in env.scope space read.1) gs)) none
+    ∙ ap (λ l. call_as (bound_arguments (argument_of env) l gs)) (sym parameters_are)
+    ∙ ap call_as given
+    ∙ call_valued env base space read procedure of args number_is of_is
+
+pub call_is : (env : Env) (place : Place) (gs : List Given) (base : Option bound.Expr) (space : Space) (number : ℕ) (w : Written) (read : ℕ × Written) (procedure : ℕ) (of : Declared) (parameters : List project.Parameter)
     (args : bound.Args) (xs : List Argument) (left : List project.Parameter) → reader env.scope space number w ≡ Some read → procedure ≡ procedure_number env.scope space read.0 → parameters ≡ parameters_in env.scope space read.1
-    → of ≡ call_type env.scope space read.1 → AllTaken value parameters gs xs left → bound_arguments value parameters gs ≡ Some args → call_with value number_of along env place gs base space number w ≡ a_value (call_node base procedure args) of
-call_is value number_of along env place gs base space number w read procedure of parameters args xs left reads number_is parameters_are of_is taken given =
-    let all : bound_arguments value (parameters_in env.scope space read.1) gs ≡ Some args = ap (λ l. bound_arguments value l gs) (sym parameters_are) ∙ given in
-    let A : List project.Parameter → Type 0 = λ l. AllTaken value l gs xs left in
-    let called_as : ℕ × Written → plain.Term = λ (f : ℕ × Written).
-    if indexes_value f.1 gs then node_or (call_value env base space f.0 f.1 (Some bound.no_args)) (λ n u. indexed_value number_of along env place n u gs)
-    else call_value env base space f.0 f.1 (bound_arguments value (parameters_in env.scope space f.1) gs) in
-    let found : call_with value number_of along env place gs base space number w ≡ called_as read = ap (λ o. if_there (option_map called_as o)) reads in
-    found ∙ rw (no_index value (scope_in (home env.scope space) read.1) read.1 gs xs left (subst A parameters_are taken), all, number_is, of_is) refl
+    → of ≡ call_type env.scope space read.1 → AllTaken (argument_of env) parameters gs xs left → bound_arguments (argument_of env) parameters gs ≡ Some args → call_with env place gs base space number w ≡ a_value (call_node base procedure args) of
+call_is env place gs base space number w read procedure of parameters args xs left reads number_is parameters_are of_is taken given =
+    let A : List project.Parameter → Type 0 = λ l. AllTaken (argument_of env) l gs xs left in
+    called_valued env place gs base space number w read procedure of parameters args reads number_is parameters_are of_is
+    (no_index (argument_of env) (scope_in (home env.scope space) read.1) read.1 gs xs left (subst A parameters_are taken)) given
+
+-- so is one without arguments
+pub bare_is : (env : Env) (base : Option bound.Expr) (space : Space) (number : ℕ) (w : Written) (read : ℕ × Written) (procedure : ℕ) (of : Declared) (parameters : List project.Parameter) (args : bound.Args) → reader env.scope space number w ≡ Some read
+    → procedure ≡ procedure_number env.scope space read.0 → parameters ≡ parameters_in env.scope space read.1 → of ≡ call_type env.scope space read.1 → bound_arguments (argument_of env) parameters [] ≡ Some args
+    → bare_call env base space number w ≡ a_value (call_node base procedure args) of
+bare_is env base space number w read procedure of parameters args reads number_is parameters_are of_is given =
+    let called : ℕ × Written → plain.Term = λ f. call_value env base space f.0 f.1 (bound_arguments (argument_of env) (parameters_in env.scope space f.1) []) in
+    ap (λ o. if_there (option_map called o)) reads
+    ∙ ap (λ l. call_value env base space read.0 read.1 (bound_arguments (argument_of env) l [])) (sym parameters_are)
+    ∙ ap (λ o. call_value env base space read.0 read.1 o) given
+    ∙ call_valued env base space read procedure of args number_is of_is
 
 -- ---- assignments
 

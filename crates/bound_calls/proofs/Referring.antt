@@ -1,6 +1,5 @@
 -- How terms are taken as references, and operands that are objects.
 use Rattle.std.proofs.Common.{◌≡◌, Bool, true, false, List, ◌∷◌, Some, None, refl, sym, ap, subst, ◌∙◌}
-use Rattle.std.specs.List.{list_all}
 use Rattle.std.specs.Prelude.{ℕ, ◌==◌, ◌||◌, ◌&&◌, [], Option, if◌then◌else◌, option_map, option_and_then}
 use Rattle.vba_base.specs.declared.place.Place.{Place}
 use Rattle.vba_values.specs.declared.object.HostRef.TheVariants as host
@@ -20,33 +19,28 @@ use Rattle.bound_project.specs.Pieces.{Piece, Tables, an_expr, of_value, expr_of
 use Rattle.bound_project.specs.Drafts.{Drafted, NodeNamed}
 use Rattle.bound_declarations.specs.constant_values.specs.declared_names.specs.binder.specs.Options.{or_else}
 use Rattle.bound_declarations.specs.constant_values.specs.declared_names.specs.binder.specs.Types.{is_object}
-use Rattle.bound_declarations.specs.constant_values.specs.declared_names.specs.binder.specs.Declarations.{Written}
-use Rattle.bound_declarations.specs.constant_values.specs.declared_names.specs.binder.specs.Scopes.{Space}
-use Rattle.bound_declarations.specs.constant_values.specs.declared_names.specs.binder.specs.Storage.{procedure_number}
 use Rattle.bound_declarations.specs.constant_values.specs.declared_names.specs.binder.specs.Constants.{is_variant}
-use Rattle.bound_forms.specs.Terms.{Env, a_value, bound_arguments, broken_rule, expression_of, may_lack, typed_value, routine_term, read_of, value_in, member_read}
+use Rattle.bound_forms.specs.Terms.{Env, broken_rule, expression_of, typed_value, read_as, read_of}
 use Rattle.bound_forms.specs.Terms as plain
-use Rattle.bound_forms.specs.ClassDefaults.{declared_in, default_read}
+use Rattle.bound_forms.specs.ClassDefaults.{default_read}
 use Rattle.bound_forms.specs.ClassDefaults as plain_defaults
-use Rattle.bound_forms.specs.ExpressionsBound.{lacking_call, class_given_way, default_rule, host_kind, bare_call, call_value, if_there, has_object, plain_operand, if_any, given_way, default_value, typed_reference, value_of, operand_of, reference_of, given_as, term_of, place_told, call_node, is_reference_type}
-use Rattle.bound_declarations.specs.constant_values.specs.declared_names.specs.binder.specs.Signatures.{call_type, parameters_in}
+use Rattle.bound_forms.specs.Operands.{alone, class_given_way, default_rule, host_kind, has_object, plain_operand, given_way, default_value, typed_reference, value_of, operand_of, reference_of, given_as, place_told, is_reference_type}
+use Rattle.bound_forms.specs.ExpressionsBound.{if_any, term_of}
 use Rattle.bound_declarations.specs.constant_values.specs.declared_names.specs.binder.specs.Classes.{class_in}
 use Rattle.class_defaults.specs.Known.{known_view}
 use Rattle.class_defaults.specs.declared.known.Known.{Known}
 use Rattle.class_defaults.specs.declared.known.Known.TheVariants as known
 use Rattle.bound_calls.specs.declared.term.Ending.{Ending}
-use Rattle.bound_calls.specs.declared.term.HostMember.{HostMember}
-use Rattle.bound_calls.specs.declared.term.Routine.{Routine}
 use Rattle.bound_calls.specs.declared.term.Term.{Term}
 use Rattle.bound_calls.specs.declared.term.Term.TheVariants as term
 use Rattle.bound_calls.specs.declared.term.Tree.{Tree}
-use Rattle.bound_calls.specs.Standing.{TermStands, EndingIs, RoutineIs, member_is}
+use Rattle.bound_calls.specs.Standing.{TermStands}
 use Rattle.bound_calls.specs.Steps.{PushesLeft, PushesOperand}
-use Rattle.bound_calls.specs.Taking.{CallsRoutine, PushesSheet, ReadsMember, TakesValue, sheet_expression, read_kind}
-use Rattle.bound_calls.specs.References.{is_referring, refers, takes_none, may_refer, by_rule, gives_way, default_ending, DefaultBreaks, DefaultIs, EndingGives, PushesAs, TakesReference, PushesReference, TakesGiven, PushesGiven, PushesIfAny}
+use Rattle.bound_calls.specs.Taking.{ReadsValue, StandsAlone, read_kind}
+use Rattle.bound_calls.specs.References.{is_referring, refers, may_refer, by_rule, gives_way, default_ending, read_operand, read_reference, DefaultBreaks, DefaultIs, EndingGives, PushesAs, PushesStanding, ReadsGiven, TakesReference, PushesReference, TakesGiven, PushesGiven, PushesIfAny}
 use Rattle.class_defaults.proofs.Passed.{class_is}
 use Rattle.bound_calls.proofs.Growing.{grown_same, grown_pieces, grown_twice}
-use Rattle.bound_calls.proofs.Taking.{node_of, operand_split, not_err, sheet_stands, read_ends, read_named, value_called}
+use Rattle.bound_calls.proofs.Taking.{is_err, node_of, not_err, operand_split, read_ends, read_named, reference_alone, unless_err}
 
 -- what is taken as a reference is no value
 object_too : (of : Declared) → is_reference_type of ≡ true → is_object of ≡ true
@@ -73,187 +67,108 @@ no_value_typed made place of h = ap (λ b. if b then None else Some (expression_
 referred : (made : bound.Node) (place : Place) (of : Declared) → (is_reference_type of || is_variant of) ≡ true → typed_reference made place of ≡ Some (expression_of made place of)
 referred made place of h = ap (λ b. if b then Some (expression_of made place of) else None) h
 
-first_of : (a b : Bool) → (a && b) ≡ true → a ≡ true
-first_of true b h = refl
-first_of false b h = h
-
-second_of : (a b : Bool) → (a && b) ≡ true → b ≡ true
-second_of true b h = h
-second_of false b h = let e : false ≡ true = h in absurd cc
-
-no_member_value : (b : Bool) (made : bound.Node) (place : Place) (of : Declared) (broken : bound.Expr) → (is_reference_type of && b) ≡ true → or_else (if b then typed_value made place of else None) (if b then None else Some broken) ≡ None
-no_member_value true made place of broken h = ap (λ (o : Option bound.Expr). or_else o None) (no_value_typed made place of (first_of (is_reference_type of) true h))
-no_member_value false made place of broken h = let e : false ≡ true = second_of (is_reference_type of) false h in absurd cc
-
--- a call without arguments that gives an object
-no_call_value : (env : Env) (base : Option bound.Expr) (space : Space) (f : ℕ × Written) (args : Option bound.Args) (place : Place) → is_reference_type (call_type env.scope space f.1) ≡ true
-    → value_in typed_value (call_value env base space f.0 f.1 args) place ≡ None
-no_call_value env base space f None place h = refl
-no_call_value env base space f (Some args) place h = no_value_typed (call_node base (procedure_number env.scope space f.0) args) place (call_type env.scope space f.1) h
-
-pub lacks_nothing : (env : Env) (r : Routine) {x : plain.Term} (s : RoutineIs env r x) → takes_none r ≡ true → (place : Place) → lacking_call env s.base s.space s.number s.written place ≡ None
-lacks_nothing env r s h place =
-    let all : list_all may_lack (parameters_in env.scope s.space s.read.1) ≡ true = ap (λ (l : List project.Parameter). list_all may_lack l) (sym s.parameters_are) ∙ h in
-    rw (s.reads, all) refl
-
-no_routine_value : (env : Env) (r : Routine) {x : plain.Term} (s : RoutineIs env r x) → (is_reference_type (declared_view r.of) && takes_none r) ≡ true → (place : Place)
-    → value_of env (routine_term s.base s.space s.number s.written) place ≡ None
-no_routine_value env r s h place =
-    let args : ℕ × Written → Option bound.Args = λ f. bound_arguments (λ of t place. None) (parameters_in env.scope s.space f.1) [] in
-    let found : Option (ℕ × Written) → plain.Term = λ o. if_there (option_map (λ f. call_value env s.base s.space f.0 f.1 (args f)) o) in
-    let bare : bare_call env s.base s.space s.number s.written ≡ call_value env s.base s.space s.read.0 s.read.1 (args s.read) = ap found s.reads in
-    let lacks : Option bound.Expr = lacking_call env s.base s.space s.number s.written place in
-    let object : is_reference_type (declared_view r.of) ≡ true = first_of (is_reference_type (declared_view r.of)) (takes_none r) h in
-    value_called env s.base s.space s.number s.written place ∙ ap (λ z. or_else (value_in typed_value z place) lacks) bare
-    ∙ ap (λ (o : Option bound.Expr). or_else o lacks) (no_call_value env s.base s.space s.read (args s.read) place (ap is_reference_type (sym s.of_is) ∙ object))
-    ∙ lacks_nothing env r s (second_of (is_reference_type (declared_view r.of)) (takes_none r) h) place
-
--- what is taken as a reference is no value
-pub no_value_there : (env : Env) (t : Tables) (x : Term) (y : plain.Term) (ps below : List Piece) → refers x ≡ true → TermStands env t x y ps below → (place : Place) → value_of env y place ≡ None
-no_value_there env t (term.Place kind of bounded lends makes) y ps below r h place =
-    ap (λ z. value_of env z place) h.is ∙ ap (λ (o : Option bound.Expr). or_else o None) (no_value_typed (read_of makes h.at) place (declared_view of) r)
-no_value_there env t (term.Value e) y ps below r h place = ap (λ z. value_of env z place) h.is ∙ ap (λ (o : Option bound.Expr). or_else o None) (no_value_typed h.made place (declared_view e.of) r)
-no_value_there env t (term.HostMember m) y ps below r h place =
-    ap (λ z. value_of env z place) h.is ∙ no_member_value (m.least == 0) (member_read h.object (member_is t m)) place (declared_view m.of) (broken_rule 25 place (also h.object no_exprs)) r
-no_value_there env t (term.SheetMember m) y ps below r h place =
-    ap (λ z. value_of env z place) h.0 ∙ no_member_value (m.least == 0) (member_read sheet_expression (member_is t m)) place (declared_view m.of) (broken_rule 25 place (also sheet_expression no_exprs)) r
-no_value_there env t (term.Routine s) y ps below r h place = ap (λ z. value_of env z place) h.routine.is ∙ no_routine_value env s h.routine r place
-no_value_there env t (term.Property p) y ps below r h place = let e : false ≡ true = r in absurd cc
-no_value_there env t (term.Function f) y ps below r h place = let e : false ≡ true = r in absurd cc
-no_value_there env t term.Err y ps below r h place = ap (λ z. value_of env z place) h.0
-no_value_there env t term.ErrRaise y ps below r h place = let e : false ≡ true = r in absurd cc
-no_value_there env t term.ErrClear y ps below r h place = let e : false ≡ true = r in absurd cc
-no_value_there env t term.ErrorWord y ps below r h place = let e : false ≡ true = r in absurd cc
-no_value_there env t term.Nothing y ps below r h place = let e : false ≡ true = r in absurd cc
+pub no_value_there : (t : Tables) (x : Term) (env : Env) (y : plain.Term) (ps below : List Piece) → refers x ≡ true → TermStands env t x y ps below → (place : Place) → read_as typed_value y place ≡ None
+no_value_there t (term.Place kind of bounds lends makes) env y ps below r h place = ap (λ z. read_as typed_value z place) h.is ∙ no_value_typed (read_of makes h.at) place (declared_view of) r
+no_value_there t (term.Value e) env y ps below r h place = ap (λ z. read_as typed_value z place) h.is ∙ no_value_typed h.made place (declared_view e.of) r
+no_value_there t term.Err env y ps below r h place = ap (λ z. read_as typed_value z place) h.0
+no_value_there t (term.HostMember m) env y ps below r h place = let e : false ≡ true = r in absurd cc
+no_value_there t (term.SheetMember m) env y ps below r h place = let e : false ≡ true = r in absurd cc
+no_value_there t (term.Routine s) env y ps below r h place = let e : false ≡ true = r in absurd cc
+no_value_there t (term.Property p) env y ps below r h place = let e : false ≡ true = r in absurd cc
+no_value_there t (term.Function f) env y ps below r h place = let e : false ≡ true = r in absurd cc
+no_value_there t term.ErrRaise env y ps below r h place = let e : false ≡ true = r in absurd cc
+no_value_there t term.ErrClear env y ps below r h place = let e : false ≡ true = r in absurd cc
+no_value_there t term.ErrorWord env y ps below r h place = let e : false ≡ true = r in absurd cc
+no_value_there t term.Nothing env y ps below r h place = let e : false ≡ true = r in absurd cc
 
 -- ---- references
 
-place_referred : (kind : NodeKind) (of : DeclaredType) (bounded lends makes : Bool) (at : Place) (d : Drafted) → is_referring of ≡ true → (env : Env) (y : plain.Term) (below : List Piece)
-    → TermStands env d.tables (term.Place kind of bounded lends makes) y d.pieces below
-    → (place : Place) → EndingIs d.tables (record { kind = read_kind makes; of = of }) place (reference_of env y place) (put d.tables (node_of kind at of) d.pieces) below
-place_referred kind of bounded lends makes at d r env y below k place = record {
-  made = read_of makes k.at;
-  is = ap (λ z. reference_of env z place) k.is ∙ referred (read_of makes k.at) place (declared_view of) r;
-  ends = read_ends makes d.tables k.at (put d.tables (node_of kind at of) d.pieces) below (k.ends (node_of kind at of));
-}
-
-pub takes_place : (kind : NodeKind) (of : DeclaredType) (bounded lends makes : Bool) (at : Place) (d e : Drafted) (read : NodeKind) → read ≡ read_kind makes → is_referring of ≡ true
-    → e ≡ record d { pieces = put d.tables (node_of kind at of) d.pieces } → TakesReference (term.Place kind of bounded lends makes) d e (record { kind = read; of = of })
-takes_place kind of bounded lends makes at d e read reads r eq =
-    let P : Drafted → Type 0 = λ x. TakesReference (term.Place kind of bounded lends makes) d x (record { kind = read_kind makes; of = of }) in
-    let Q : NodeKind → Type 0 = λ q. TakesReference (term.Place kind of bounded lends makes) d e (record { kind = q; of = of }) in
+pub takes_place : (kind : NodeKind) (of : DeclaredType) (bounds : ℕ) (lends makes : Bool) (place : Place) (d e : Drafted) (read : NodeKind) → read ≡ read_kind makes → is_referring of ≡ true
+    → e ≡ record d { pieces = put d.tables (node_of kind place of) d.pieces } → TakesReference (term.Place kind of bounds lends makes) place d e (record { kind = read; of = of })
+takes_place kind of bounds lends makes place d e read reads r eq =
+    let P : Drafted → Type 0 = λ x. TakesReference (term.Place kind of bounds lends makes) place d x (record { kind = read_kind makes; of = of }) in
+    let Q : NodeKind → Type 0 = λ q. TakesReference (term.Place kind of bounds lends makes) place d e (record { kind = q; of = of }) in
     subst Q (sym reads) (subst P (sym eq) (record {
-      grown = grown_pieces d (put d.tables (node_of kind at of) d.pieces);
+      grown = grown_pieces d (put d.tables (node_of kind place of) d.pieces);
       named = read_named d.tables makes;
-      stands = place_referred kind of bounded lends makes at d r;
+      stands = λ env y below k. record {
+        made = read_of makes k.at;
+        is = ap (λ z. read_reference z place) k.is ∙ referred (read_of makes k.at) place (declared_view of) r;
+        ends = read_ends makes d.tables k.at (put d.tables (node_of kind place of) d.pieces) below (k.ends (node_of kind place of));
+      };
     }))
 
-pub takes_value : (v : Ending) (d : Drafted) → is_referring v.of ≡ true → NodeNamed d.tables v.kind → TakesReference (term.Value v) d d v
-takes_value v d r n = record {
+pub takes_value : (v : Ending) (place : Place) (d : Drafted) → is_referring v.of ≡ true → NodeNamed d.tables v.kind → TakesReference (term.Value v) place d d v
+takes_value v place d r n = record {
   grown = grown_same d;
   named = n;
-  stands = λ env y below k place. record {
+  stands = λ env y below k. record {
     made = k.made;
-    is = ap (λ z. reference_of env z place) k.is ∙ referred k.made place (declared_view v.of) r;
+    is = ap (λ z. read_reference z place) k.is ∙ referred k.made place (declared_view v.of) r;
     ends = k.ends;
   };
-}
-
-read_when : (b : Bool) (made : bound.Node) (place : Place) (of : Declared) → b ≡ true → (is_reference_type of || is_variant of) ≡ true → (if b then typed_reference made place of else None) ≡ Some (expression_of made place of)
-read_when b made place of eq h = ap (λ c. if c then typed_reference made place of else None) eq ∙ referred made place of h
-
-member_referred : (m : HostMember) (d e : Drafted) (v : Ending) → is_referring m.of ≡ true → ReadsMember m d e v → (env : Env) (y : plain.Term) (below : List Piece)
-    → TermStands env d.tables (term.HostMember m) y d.pieces below → (place : Place) → EndingIs e.tables v place (reference_of env y place) e.pieces below
-member_referred m d e v r h env y below k place =
-    let made = member_read k.object (member_is d.tables m) in
-    let P : DeclaredType → Type 0 = λ of. reference_of env y place ≡ Some (expression_of made place (declared_view of)) in
-    record {
-      made = made;
-      is = subst P (sym h.of_is) (ap (λ z. reference_of env z place) k.is ∙ read_when (m.least == 0) made place (declared_view m.of) (ap (λ n. n == 0) h.least_is) r);
-      ends = h.ends k.object below k.on_top;
-    }
-
-pub takes_member : (m : HostMember) (d e : Drafted) (v : Ending) → is_referring m.of ≡ true → ReadsMember m d e v → TakesReference (term.HostMember m) d e v
-takes_member m d e v r h = record { grown = h.grown; named = h.named; stands = member_referred m d e v r h }
-
-pub takes_sheet_member : (m : HostMember) (d s e : Drafted) (v : Ending) → is_referring m.of ≡ true → PushesSheet d s → ReadsMember m s e v → TakesReference (term.SheetMember m) d e v
-takes_sheet_member m d s e v r p h =
-    let t = takes_member m s e v r h in
-    record { grown = grown_twice d s e p.grown t.grown; named = t.named; stands = λ env y below k place. t.stands env y below (sheet_stands m d s p env y below k) place }
-
--- a call without arguments
-reference_called : (env : Env) (base : Option bound.Expr) (space : Space) (number : ℕ) (w : Written) (place : Place)
-    → reference_of env (routine_term base space number w) place ≡ value_in typed_reference (bare_call env base space number w) place
-reference_called env None space number w place = refl
-reference_called env (Some b) space number w place = refl
-
-bare_reference : (env : Env) (base : Option bound.Expr) (space : Space) (number : ℕ) (w : Written) (made : bound.Node) (of : Declared) (place : Place) → bare_call env base space number w ≡ a_value made of
-    → reference_of env (routine_term base space number w) place ≡ typed_reference made place of
-bare_reference env base space number w made of place h = reference_called env base space number w place ∙ ap (λ z. value_in typed_reference z place) h
-
-pub takes_routine : (r : Routine) (d e : Drafted) (v : Ending) → is_referring r.of ≡ true → CallsRoutine r d e v → TakesReference (term.Routine r) d e v
-takes_routine r d e v ref h = record {
-  grown = h.grown;
-  named = h.named;
-  stands = λ env y below k place.
-      let b = h.stands env y below k in
-      let c = b.called in
-      record {
-        made = c.made;
-        is = ap (λ z. reference_of env z place) b.is ∙ bare_reference env b.base b.space b.number b.written c.made (declared_view v.of) place c.is
-            ∙ referred c.made place (declared_view v.of) (ap (λ of. is_referring of) h.of_is ∙ ref);
-        ends = c.ends;
-      };
 }
 
 abbrev pub err_reference : Ending
 err_reference = record { kind = node.HostObject host.ErrObject; of = Plain element.Object }
 
-pub takes_err : (d : Drafted) → TakesReference term.Err d d err_reference
-takes_err d = record {
+pub takes_err : (place : Place) (d : Drafted) → TakesReference term.Err place d d err_reference
+takes_err place d = record {
   grown = grown_same d;
   named = tt;
-  stands = λ env y below k place. record {
+  stands = λ env y below k. record {
     made = host_object host.ErrObject;
-    is = ap (λ z. reference_of env z place) k.0;
+    is = ap (λ z. read_reference z place) k.0;
     ends = λ n. ap (λ st. expr_of n (host_object host.ErrObject) ∷ st) k.1;
   };
 }
 
 -- ---- what is pushed
 
-pub pushes_reference : (x : Tree) (d m e : Drafted) (v : Ending) → TakesReference x.term d m v → e ≡ record m { pieces = put m.tables (node_of v.kind x.place v.of) m.pieces } → PushesReference x d e v.of
-pushes_reference x d m e v t eq =
+pub pushes_reference : (x : Tree) (d a m e : Drafted) (made : Term) (v : Ending) → StandsAlone x.term x.place d a made → TakesReference made x.place a m v
+    → e ≡ record m { pieces = put m.tables (node_of v.kind x.place v.of) m.pieces } → PushesReference x d e v.of
+pushes_reference x d a m e made v s t eq =
     let P : Drafted → Type 0 = λ z. PushesReference x d z v.of in
+    let e1 : Drafted = record m { pieces = put m.tables (node_of v.kind x.place v.of) m.pieces } in
     subst P (sym eq) (record {
-      grown = grown_twice d m (record m { pieces = put m.tables (node_of v.kind x.place v.of) m.pieces }) t.grown (grown_pieces m (put m.tables (node_of v.kind x.place v.of) m.pieces));
+      grown = grown_twice d a e1 s.grown (grown_twice a m e1 t.grown (grown_pieces m e1.pieces));
       stands = λ env tree below k.
-          let h = t.stands env (term_of env tree) below k.term_is x.place in
-          let A : Place → Type 0 = λ place. reference_of env (term_of env tree) place ≡ Some (expression_of h.made x.place (declared_view v.of)) in
-          record { made = h.made; place = x.place; is = subst A k.place_is h.is; on_top = h.ends (node_of v.kind x.place v.of) };
+          let y = term_of env tree in
+          let h = t.stands env (alone env x.place y) below (s.stands env y below k.term_is) in
+          let A : Place → Type 0 = λ place. reference_of env y place ≡ Some (expression_of h.made x.place (declared_view v.of)) in
+          record { made = h.made; place = x.place; is = subst A k.place_is (reference_alone env y x.place ∙ h.is); on_top = h.ends (node_of v.kind x.place v.of) };
     })
 
-pub given_reference : (x : Term) (place : Place) (d e : Drafted) (v : Ending) → refers x ≡ true → TakesReference x d e v → TakesGiven x place d e v
+pub given_reference : (x : Term) (place : Place) (d e : Drafted) (v : Ending) → refers x ≡ true → TakesReference x place d e v → ReadsGiven x place d e v
 given_reference x place d e v r t = record {
   grown = t.grown;
   named = t.named;
   stands = λ env y below k.
-      let h = t.stands env y below k place in
+      let h = t.stands env y below k in
       record {
         made = h.made;
-        is = ap (λ o. or_else o (reference_of env y place)) (no_value_there env d.tables x y d.pieces below r k place) ∙ h.is;
+        is = ap (λ o. or_else o (read_reference y place)) (no_value_there d.tables x env y d.pieces below r k place) ∙ h.is;
         ends = h.ends;
       };
 }
 
 -- a value is given as it is
-pub given_value : (x : Term) (place : Place) (d e : Drafted) (v : Ending) → TakesValue x place d e (Some v) → TakesGiven x place d e v
+pub given_value : (x : Term) (place : Place) (d e : Drafted) (v : Ending) → ReadsValue x place d e (Some v) → ReadsGiven x place d e v
 given_value x place d e v t = record {
   grown = t.grown;
   named = t.named;
   stands = λ env y below k.
       let h = t.stands env y below k in
-      record { made = h.made; is = ap (λ o. or_else o (reference_of env y place)) h.is; ends = h.ends };
+      record { made = h.made; is = ap (λ o. or_else o (read_reference y place)) h.is; ends = h.ends };
+}
+
+pub given_alone : (x : Term) (place : Place) (d m e : Drafted) (made : Term) (v : Ending) → StandsAlone x place d m made → ReadsGiven made place m e v → TakesGiven x place d e v
+given_alone x place d m e made v s t = record {
+  grown = grown_twice d m e s.grown t.grown;
+  named = t.named;
+  stands = λ env y below k.
+      let h = t.stands env (alone env place y) below (s.stands env y below k) in
+      record { made = h.made; is = ap (λ o. or_else (value_of env y place) o) (reference_alone env y place) ∙ h.is; ends = h.ends };
 }
 
 pub pushes_given : (x : Tree) (d m e : Drafted) (v : Ending) → TakesGiven x.term x.place d m v → e ≡ record m { pieces = put m.tables (node_of v.kind x.place v.of) m.pieces } → PushesGiven x d e v.of
@@ -274,11 +189,11 @@ first_holds : (a b : Bool) → a ≡ true → (a || b) ≡ true
 first_holds a b h = ap (λ c. c || b) h
 
 pub refers_may : (x : Term) → refers x ≡ true → may_refer x ≡ true
-refers_may (term.Place kind of bounded lends makes) h = first_holds (is_reference_type (declared_view of)) (is_variant (declared_view of)) h
+refers_may (term.Place kind of bounds lends makes) h = first_holds (is_reference_type (declared_view of)) (is_variant (declared_view of)) h
 refers_may (term.Value e) h = first_holds (is_reference_type (declared_view e.of)) (is_variant (declared_view e.of)) h
-refers_may (term.HostMember m) h = first_holds (is_reference_type (declared_view m.of)) (is_variant (declared_view m.of)) (first_of (is_reference_type (declared_view m.of)) (m.least == 0) h)
-refers_may (term.SheetMember m) h = first_holds (is_reference_type (declared_view m.of)) (is_variant (declared_view m.of)) (first_of (is_reference_type (declared_view m.of)) (m.least == 0) h)
-refers_may (term.Routine r) h = first_holds (is_reference_type (declared_view r.of)) (is_variant (declared_view r.of)) (first_of (is_reference_type (declared_view r.of)) (takes_none r) h)
+refers_may (term.HostMember m) h = h
+refers_may (term.SheetMember m) h = h
+refers_may (term.Routine r) h = h
 refers_may (term.Property p) h = h
 refers_may (term.Function f) h = h
 refers_may term.Err h = refl
@@ -288,7 +203,7 @@ refers_may term.ErrorWord h = h
 refers_may term.Nothing h = h
 
 pub gives_refers : (x : Term) → gives_way x ≡ true → refers x ≡ true
-gives_refers (term.Place kind of bounded lends makes) h = h
+gives_refers (term.Place kind of bounds lends makes) h = h
 gives_refers (term.Value e) h = h
 gives_refers (term.HostMember m) h = h
 gives_refers (term.SheetMember m) h = h
@@ -301,20 +216,20 @@ gives_refers term.ErrClear h = h
 gives_refers term.ErrorWord h = h
 gives_refers term.Nothing h = h
 
-gives_no_err : (x : Term) → gives_way x ≡ true → not_err x
-unfolding not_err
-gives_no_err (term.Place kind of bounded lends makes) h = tt
-gives_no_err (term.Value e) h = tt
-gives_no_err (term.HostMember m) h = tt
-gives_no_err (term.SheetMember m) h = tt
-gives_no_err (term.Routine s) h = tt
-gives_no_err (term.Property p) h = tt
-gives_no_err (term.Function f) h = tt
-gives_no_err term.Err h = let e : false ≡ true = h in absurd cc
-gives_no_err term.ErrRaise h = tt
-gives_no_err term.ErrClear h = tt
-gives_no_err term.ErrorWord h = tt
-gives_no_err term.Nothing h = tt
+-- what gives way is a reference, and no Err
+given_way_there : (t : Tables) (x : Term) (env : Env) (y : plain.Term) (ps below : List Piece) → gives_way x ≡ true → TermStands env t x y ps below → (place : Place) → read_reference y place ≡ read_as typed_reference y place
+given_way_there t (term.Place kind of bounds lends makes) env y ps below g h place = unless_err y place (ap is_err h.is)
+given_way_there t (term.Value e) env y ps below g h place = unless_err y place (ap is_err h.is)
+given_way_there t (term.HostMember m) env y ps below g h place = unless_err y place (ap is_err h.is)
+given_way_there t (term.SheetMember m) env y ps below g h place = unless_err y place (ap is_err h.0)
+given_way_there t (term.Routine s) env y ps below g h place = let e : false ≡ true = g in absurd cc
+given_way_there t (term.Property p) env y ps below g h place = let e : false ≡ true = g in absurd cc
+given_way_there t (term.Function f) env y ps below g h place = unless_err y place (ap is_err h.0.is)
+given_way_there t term.Err env y ps below g h place = let e : false ≡ true = g in absurd cc
+given_way_there t term.ErrRaise env y ps below g h place = unless_err y place (ap is_err h.0)
+given_way_there t term.ErrClear env y ps below g h place = unless_err y place (ap is_err h.0)
+given_way_there t term.ErrorWord env y ps below g h place = unless_err y place (ap is_err h.0)
+given_way_there t term.Nothing env y ps below g h place = unless_err y place (ap is_err h)
 
 abbrev pub variant : DeclaredType
 variant = Plain element.Variant
@@ -386,35 +301,28 @@ behind_gives t (known.Breaks rule) place behind x below h =
     subst N same (record { made = broken_rule rule place (also x no_exprs); is = refl; operand = refl; on_top = refl })
 behind_gives t known.NotSaid place behind x below h = let e : None ≡ Some behind = h in absurd cc
 
-pub pushes_default : (x : Tree) (d m n e : Drafted) (v : Ending) (found : Known) (behind : Ending) → gives_way x.term ≡ true → TakesReference x.term d m v → DefaultIs (declarations_view x.declared.now) v found
-    → default_ending found x.place ≡ Some behind → n ≡ record m { pieces = put m.tables (node_of v.kind x.place v.of) m.pieces }
-    → e ≡ record n { pieces = put n.tables (node_of behind.kind x.place behind.of) n.pieces } → PushesOperand x d e (Some behind.of)
-pushes_default x d m n e v found behind w t gives is one two =
-    let n1 : Drafted = record m { pieces = put m.tables (node_of v.kind x.place v.of) m.pieces } in
-    let e1 : Drafted = record n1 { pieces = put n1.tables (node_of behind.kind x.place behind.of) n1.pieces } in
-    let all : e ≡ e1 = two ∙ ap (λ (z : Drafted). record z { pieces = put z.tables (node_of behind.kind x.place behind.of) z.pieces }) one in
-    let P : Drafted → Type 0 = λ z. PushesOperand x d z (Some behind.of) in
+pub pushes_default : (known : project.Declarations) (x : Term) (place : Place) (d m n e : Drafted) (v : Ending) (found : Known) (behind : Ending) → gives_way x ≡ true → TakesReference x place d m v → DefaultIs known v found
+    → default_ending found place ≡ Some behind → n ≡ record m { pieces = put m.tables (node_of v.kind place v.of) m.pieces }
+    → e ≡ record n { pieces = put n.tables (node_of behind.kind place behind.of) n.pieces } → PushesStanding known x place d e behind.of
+pushes_default known x place d m n e v found behind w t gives is one two =
+    let n1 : Drafted = record m { pieces = put m.tables (node_of v.kind place v.of) m.pieces } in
+    let e1 : Drafted = record n1 { pieces = put n1.tables (node_of behind.kind place behind.of) n1.pieces } in
+    let all : e ≡ e1 = two ∙ ap (λ (z : Drafted). record z { pieces = put z.tables (node_of behind.kind place behind.of) z.pieces }) one in
+    let P : Drafted → Type 0 = λ z. PushesStanding known x place d z behind.of in
     subst P (sym all) (record {
       grown = grown_twice d m e1 t.grown (grown_twice m n1 e1 (grown_pieces m n1.pieces) (grown_pieces n1 e1.pieces));
-      stands = λ env tree below k.
-          let place = place_told tree in
-          let y = term_of env tree in
-          let s = declared_in env.scope in
-          let h = t.stands env y below k.term_is x.place in
-          let reference = expression_of h.made x.place (declared_view v.of) in
-          let g = behind_gives m.tables found x.place behind reference below is in
-          let A : Place → Type 0 = λ (q : Place). reference_of env y q ≡ Some reference in
+      stands = λ env y below k.
+          let h = t.stands env y below k in
+          let reference = expression_of h.made place (declared_view v.of) in
+          let g = behind_gives m.tables found place behind reference below is in
           record {
             made = g.made;
-            is = operand_split env d.tables x.term (gives_no_err x.term w) y d.pieces below k.term_is place
-                ∙ ap (λ o. or_else (option_map plain_operand o) (option_and_then (default_value s place) (reference_of env y place))) (no_value_there env d.tables x.term y d.pieces below (gives_refers x.term w) k.term_is place)
-                ∙ ap (λ o. option_and_then (default_value s place) o) (subst A k.place_is h.is)
-                ∙ ap (λ (z : project.Declarations). default_value z place reference) k.declared_is
-                ∙ gives.is m.tables h.made m.pieces below h.ends place x.place
-                ∙ ap (λ (q : Place). class_given_way (known_view found) q reference) (sym k.place_is)
+            is = ap (λ o. or_else (option_map plain_operand o) (option_and_then (default_value known place) (read_as typed_reference y place))) (no_value_there d.tables x env y d.pieces below (gives_refers x w) k place)
+                ∙ ap (λ o. option_and_then (default_value known place) o) (sym (given_way_there d.tables x env y d.pieces below w k place) ∙ h.is)
+                ∙ gives.is m.tables h.made m.pieces below h.ends place place
                 ∙ g.is;
             operand = g.operand;
-            on_top = ap (λ st. put m.tables (node_of behind.kind x.place behind.of) st) (h.ends (node_of v.kind x.place v.of)) ∙ g.on_top;
+            on_top = ap (λ st. put m.tables (node_of behind.kind place behind.of) st) (h.ends (node_of v.kind place v.of)) ∙ g.on_top;
           };
     })
 
@@ -516,21 +424,37 @@ if_any_default v place d m e o b h g is one two =
     })
 
 -- a value as an operand
-pub value_plainly : (x : Tree) (d m e : Drafted) (v : Ending) (of : DeclaredType) → not_err x.term → TakesValue x.term x.place d m (Some v) → PushesAs plain_operand v x.place m e of → PushesOperand x d e (Some of)
-value_plainly x d m e v of n t p = record {
+pub value_plainly : (known : project.Declarations) (x : Term) (place : Place) (d m e : Drafted) (v : Ending) (of : DeclaredType) → ReadsValue x place d m (Some v) → PushesAs plain_operand v place m e of → PushesStanding known x place d e of
+value_plainly known x place d m e v of t p = record {
   grown = grown_twice d m e t.grown p.grown;
-  stands = λ env tree below k.
-      let y = term_of env tree in
-      let place = place_told tree in
-      let h = t.stands env y below k.term_is in
+  stands = λ env y below k.
+      let h = t.stands env y below k in
       let s = p.stands h.made below h.ends in
-      let here : value_of env y place ≡ Some (expression_of h.made x.place (declared_view v.of)) = ap (λ (q : Place). value_of env y q) (sym k.place_is) ∙ h.is in
+      let other = option_and_then (default_value known place) (read_as typed_reference y place) in
       record {
         made = s.made;
-        is = operand_split env d.tables x.term n y d.pieces below k.term_is place ∙ ap (λ o. or_else (option_map plain_operand o) (option_and_then (default_value (declared_in env.scope) place) (reference_of env y place))) here
-            ∙ ap (λ o. or_else o (option_and_then (default_value (declared_in env.scope) place) (reference_of env y place))) s.is;
+        is = ap (λ o. or_else (option_map plain_operand o) other) h.is ∙ ap (λ o. or_else o other) s.is;
         operand = s.operand;
         on_top = s.on_top;
+      };
+}
+
+-- what stands alone as an operand
+pub operand_alone : (x : Tree) (d m e : Drafted) (made : Term) (of : DeclaredType) → not_err x.term → StandsAlone x.term x.place d m made → PushesStanding (declarations_view x.declared.now) made x.place m e of → PushesOperand x d e (Some of)
+operand_alone x d m e made of n s p = record {
+  grown = grown_twice d m e s.grown p.grown;
+  stands = λ env tree below k.
+      let y = term_of env tree in
+      let known = declarations_view x.declared.now in
+      let h = p.stands env (alone env x.place y) below (s.stands env y below k.term_is) in
+      record {
+        made = h.made;
+        is = operand_split env d.tables x.term n y d.pieces below k.term_is (place_told tree)
+            ∙ ap (λ (z : project.Declarations). read_operand z (alone env (place_told tree) y) (place_told tree)) k.declared_is
+            ∙ ap (λ (q : Place). read_operand known (alone env q y) q) (sym k.place_is)
+            ∙ h.is;
+        operand = h.operand;
+        on_top = h.on_top;
       };
 }
 

@@ -8,7 +8,8 @@ use Rattle.bound_project.specs.Pieces.{Tables}
 use Rattle.bound_project.specs.Project.{Parameter}
 use Rattle.bound_forms.specs.Terms.{Given, all_but, by_name_from, has_names, may_lack, takes, takes_named}
 use Rattle.bound_forms.specs.Terms as plain
-use Rattle.bound_forms.specs.ExpressionsBound.{are_numbers, are_places, arguments_rule, may_index, member_takes, names_taken, takes_arguments, takes_names}
+use Rattle.bound_forms.specs.Operands.{are_numbers, are_places, fits_bounds}
+use Rattle.bound_forms.specs.ExpressionsBound.{arguments_rule, may_index, member_takes, names_taken, takes_arguments, takes_names}
 use Rattle.bound_calls.specs.declared.term.Refuser.{Refuser}
 use Rattle.bound_calls.specs.declared.term.Refuser.TheVariants as refuser
 use Rattle.bound_calls.specs.declared.term.Shape.{Shape}
@@ -72,10 +73,14 @@ numbers_same (s ∷ r ∷ ss) (g ∷ f ∷ gs) h =
 places_same : (ss : List Shape) (gs : List Given) → AreShaped ss gs → are_places (shapes_given ss) ≡ are_places gs
 places_same ss gs h = ap (λ b. b && not (has_names (shapes_given ss))) (numbers_same ss gs h) ∙ ap (λ b. are_numbers gs && not b) (named_same ss gs h)
 
-index_same : (of : Declared) (ss : List Shape) (gs : List Given) → AreShaped ss gs → may_index of (shapes_given ss) ≡ may_index of gs
-index_same (type.array_of of) ss gs h = places_same ss gs h
-index_same type.variant ss gs h = refl
-index_same of ss gs h = refl
+fits_same : (bounds : ℕ) (ss : List Shape) (gs : List Given) → AreShaped ss gs → fits_bounds bounds (shapes_given ss) ≡ fits_bounds bounds gs
+fits_same zero ss gs h = refl
+fits_same (suc n) ss gs h = ap (λ k. k == suc n) (shapes_long ss gs h)
+
+index_same : (of : Declared) (bounds : ℕ) (ss : List Shape) (gs : List Given) → AreShaped ss gs → may_index of bounds (shapes_given ss) ≡ may_index of bounds gs
+index_same (type.array_of of) bounds ss gs h = ap (λ b. b && fits_bounds bounds (shapes_given ss)) (places_same ss gs h) ∙ ap (λ b. are_places gs && b) (fits_same bounds ss gs h)
+index_same type.variant bounds ss gs h = refl
+index_same of bounds ss gs h = refl
 
 taken_same : (m : plain.HostMember) (ss : List Shape) (gs : List Given) → AreShaped ss gs → names_taken m (shapes_given ss) ≡ names_taken m gs
 taken_same m ss gs h = ap (λ l. option_and_then (λ by. if takes_names m by then Some by else None) (by_name_from 0 l)) (names_same ss gs h)
@@ -98,13 +103,17 @@ member_same m ss gs h = member_by m m.greatest ss gs h
 
 -- so is the rule that they break
 pub rule_shaped : (t : Tables) (x : Refuser) (ss : List Shape) (gs : List Given) → AreShaped ss gs → refused_rule t x (shapes_given ss) ≡ refused_rule t x gs
-rule_shaped t (refuser.Procedure ps) ss gs h = ap (λ b. if b then None else Some 25) (takes_shaped (map parameter_view ps.now) ss gs h)
-rule_shaped t (refuser.Value of) ss gs h = ap (λ b. if b then None else Some 25) (index_same (declared_view of) ss gs h)
+rule_shaped t (refuser.Procedure values ps of) ss gs h = ap (λ b. if b then None else Some 25) (takes_shaped (map parameter_view ps.now) ss gs h)
+rule_shaped t (refuser.Value of bounds) ss gs h = ap (λ b. if b then None else Some 25) (index_same (declared_view of) bounds ss gs h)
 rule_shaped t (refuser.Called of) [] [] h = refl
 rule_shaped t (refuser.Called of) [] (g ∷ gs) h = absurd h
 rule_shaped t (refuser.Called of) (s ∷ ss) [] h = absurd h
-rule_shaped t (refuser.Called of) (s ∷ ss) (g ∷ gs) h = ap (λ b. if b then None else Some 25) (index_same (declared_view of) (s ∷ ss) (g ∷ gs) h)
+rule_shaped t (refuser.Called of) (s ∷ ss) (g ∷ gs) h = ap (λ b. if b then None else Some 25) (index_same (declared_view of) 0 (s ∷ ss) (g ∷ gs) h)
 rule_shaped t (refuser.Member m) ss gs h = ap (λ b. if b then None else arguments_rule (member_is t m)) (member_same (member_is t m) ss gs h)
+rule_shaped t (refuser.Behind m) [] [] h = refl
+rule_shaped t (refuser.Behind m) [] (g ∷ gs) h = absurd h
+rule_shaped t (refuser.Behind m) (s ∷ ss) [] h = absurd h
+rule_shaped t (refuser.Behind m) (s ∷ ss) (g ∷ gs) h = ap (λ b. if b then None else arguments_rule (member_is t m)) (member_same (member_is t m) (s ∷ ss) (g ∷ gs) h)
 rule_shaped t refuser.Bare [] [] h = refl
 rule_shaped t refuser.Bare [] (g ∷ gs) h = absurd h
 rule_shaped t refuser.Bare (s ∷ ss) [] h = absurd h

@@ -30,7 +30,8 @@ use Rattle.bound_declarations.specs.constant_values.specs.declared_names.specs.b
 use Rattle.bound_forms.specs.Terms.{Env, a_value, expression_of}
 use Rattle.bound_forms.specs.Terms as plain
 use Rattle.bound_forms.specs.ClassDefaults.{declared_in}
-use Rattle.bound_forms.specs.ExpressionsBound.{term_of, value_of, operand_of, reference_of, given_as, as_value, binary_term, same_term, if_there, value_term, literal_term, bound_value, bound_operand, place_told}
+use Rattle.bound_forms.specs.Operands.{value_of, operand_of, reference_of, given_as, if_there, place_told}
+use Rattle.bound_forms.specs.ExpressionsBound.{term_of, as_value, binary_term, same_term, value_term, literal_term, bound_value, bound_operand}
 use Rattle.vba_words.specs.declared.identifier.Identifier.{Identifier}
 use Rattle.bound_calls.specs.declared.term.Ending.{Ending}
 use Rattle.bound_calls.specs.declared.term.Term.{Term}

@@ -3,6 +3,8 @@ use Rattle.std.proofs.Common.{◌≡◌, ℕ, ◌<◌, length, map, Bool, true, 
 use Rattle.std.proofs.Math.Seq.{get_or-append_seam}
 use Rattle.std.specs.Prelude.{◌==◌, if◌then◌else◌, option_map, option_and_then}
 use Rattle.vba_base.specs.declared.place.Place.{Place}
+use Rattle.vba_lib.specs.declared.function.LibraryFunction.{LibraryFunction}
+use Rattle.vba_values.specs.Types.{Declared}
 use Rattle.vba_values.specs.Types as type
 use Rattle.bound_project.specs.declared.declared_type.DeclaredType.{DeclaredType}
 use Rattle.bound_project.specs.declared.declared_type.DeclaredType.TheVariants.{Plain}
@@ -21,24 +23,23 @@ use Rattle.bound_project.specs.Pieces.{Piece, Sought, Tables, a_late, a_member, 
 use Rattle.bound_project.proofs.Drafts.{order_extends}
 use Rattle.bound_project.proofs.Lists.{late_is, member_put}
 use Rattle.bound_project.specs.Drafts.{AllBelow, Drafted, NodeNamed, with_order}
-use Rattle.bound_declarations.specs.constant_values.specs.declared_names.specs.binder.specs.Options.{or_else}
 use Rattle.bound_declarations.specs.constant_values.specs.declared_names.specs.binder.specs.Types.{is_object}
 use Rattle.bound_declarations.specs.constant_values.specs.declared_names.specs.binder.specs.Declarations.{Written}
 use Rattle.bound_declarations.specs.constant_values.specs.declared_names.specs.binder.specs.Scopes.{Space}
-use Rattle.bound_forms.specs.Terms.{Env, a_host_member, bound_arguments, broken_rule, expression_of, member_read, no_names, no_term, typed_value, routine_term, read_of, value_in}
+use Rattle.bound_forms.specs.Terms.{Env, a_host_member, bound_arguments, broken_call, err_object, expression_of, member_read, no_names, no_term, takes, told_type, typed_value, routine_term, read_as, read_of}
 use Rattle.bound_forms.specs.Terms as plain
 use Rattle.bound_forms.specs.ClassDefaults.{declared_in}
-use Rattle.bound_forms.specs.ExpressionsBound.{lacking_call, bare_call, call_value, if_there, plain_operand, without_arguments, value_of, reference_of, default_value, operand_of}
-use Rattle.bound_declarations.specs.constant_values.specs.declared_names.specs.binder.specs.Signatures.{parameters_in, reader}
+use Rattle.bound_forms.specs.Operands.{alone, bare_call, behind_base, call_value, called_alone, function_takes, function_value, if_there, lacking_call, operand_of, read_alone, reference_of, term_or, typed_reference}
+use Rattle.bound_declarations.specs.constant_values.specs.declared_names.specs.binder.specs.Signatures.{call_type, parameters_in, reader}
 use Rattle.bound_declarations.specs.constant_values.specs.declared_names.specs.View.{space_view, written_view}
 use Rattle.bound_calls.specs.declared.term.Ending.{Ending}
 use Rattle.bound_calls.specs.declared.term.HostMember.{HostMember}
-use Rattle.bound_calls.specs.declared.term.Routine.{Routine}
 use Rattle.bound_calls.specs.declared.term.Term.{Term}
 use Rattle.bound_calls.specs.declared.term.Term.TheVariants as term
-use Rattle.bound_calls.specs.Standing.{TermStands, EndingIs, EndingStands, EndingNamed, member_is, ValueEnds}
+use Rattle.bound_calls.specs.Standing.{TermStands, EndingStands, EndingNamed, member_is, ValueEnds}
 use Rattle.bound_calls.specs.InOrder.{AddsOrder}
-use Rattle.bound_calls.specs.Taking.{Loads, LooksUpBare, CallsBare, broken_ending, PushesSheet, ReadsBare, ReadsMember, TakesValue, Pushes, sheet_expression, read_kind}
+use Rattle.bound_calls.specs.Taking.{Loads, LooksUpBare, PushesSheet, ReadsBare, ReadsMember, ReadsValue, StandsAlone, TakesValue, Pushes, sheet_expression, read_kind}
+use Rattle.bound_calls.specs.References.{read_operand, read_reference}
 use Rattle.bound_calls.proofs.Growing.{grown_same, grown_pieces, grown_twice}
 
 -- a node of a type that it has as an operand too
@@ -81,37 +82,30 @@ loads_some kind of makes place d e read reads h eq =
 
 -- ---- values
 
-or_none : {A : Type 0} (o : Option A) → or_else o None ≡ o
-or_none None = refl
-or_none (Some x) = refl
-
-place_value : (kind : NodeKind) (of : DeclaredType) (bounded lends makes : Bool) (place : Place) (d e : Drafted) (ending : Option Ending) → Loads kind of makes d e ending
-    → (env : Env) (y : plain.Term) (below : List Piece) → TermStands env d.tables (term.Place kind of bounded lends makes) y d.pieces below
-    → EndingStands e.tables ending place (value_of env y place) e.pieces below
-place_value kind of bounded lends makes place d e ending h env y below k =
-    let O : Option bound.Expr → Type 0 = λ o. EndingStands e.tables ending place o e.pieces below in
-    let P : plain.Term → Type 0 = λ z. EndingStands e.tables ending place (value_of env z place) e.pieces below in
-    subst P (sym k.is) (subst O (sym (or_none (typed_value (read_of makes k.at) place (declared_view of)))) (h.stands place k.at below k.ends))
-
-pub takes_place : (kind : NodeKind) (of : DeclaredType) (bounded lends makes : Bool) (place : Place) (d e : Drafted) (ending : Option Ending) → Loads kind of makes d e ending
-    → TakesValue (term.Place kind of bounded lends makes) place d e ending
-takes_place kind of bounded lends makes place d e ending h = record { grown = h.grown; named = h.named; stands = place_value kind of bounded lends makes place d e ending h }
+pub reads_place : (kind : NodeKind) (of : DeclaredType) (bounds : ℕ) (lends makes : Bool) (place : Place) (d e : Drafted) (ending : Option Ending) → Loads kind of makes d e ending
+    → ReadsValue (term.Place kind of bounds lends makes) place d e ending
+reads_place kind of bounds lends makes place d e ending h = record {
+  grown = h.grown;
+  named = h.named;
+  stands = λ env y below k.
+      let P : plain.Term → Type 0 = λ z. EndingStands e.tables ending place (read_as typed_value z place) e.pieces below in
+      subst P (sym k.is) (h.stands place k.at below k.ends);
+}
 
 abbrev plain_ending : Bool → Ending → Option Ending
 plain_ending b e = if b then None else Some e
 
-value_value : (e : Ending) (b : Bool) (place : Place) → is_object (declared_view e.of) ≡ b → (d : Drafted) (env : Env) (y : plain.Term) (below : List Piece) → TermStands env d.tables (term.Value e) y d.pieces below
-    → EndingStands d.tables (plain_ending b e) place (value_of env y place) d.pieces below
-value_value e true place h d env y below k = ap (λ z. value_of env z place) k.is ∙ ap (λ (o : Option bound.Expr). or_else o None) (an_object k.made place e.of h)
-value_value e false place h d env y below k =
-    record { made = k.made; is = ap (λ z. value_of env z place) k.is ∙ ap (λ (o : Option bound.Expr). or_else o None) (no_object k.made place e.of h); ends = k.ends }
+value_read : (e : Ending) (b : Bool) (place : Place) → is_object (declared_view e.of) ≡ b → (d : Drafted) (env : Env) (y : plain.Term) (below : List Piece) → TermStands env d.tables (term.Value e) y d.pieces below
+    → EndingStands d.tables (plain_ending b e) place (read_as typed_value y place) d.pieces below
+value_read e true place h d env y below k = ap (λ z. read_as typed_value z place) k.is ∙ an_object k.made place e.of h
+value_read e false place h d env y below k = record { made = k.made; is = ap (λ z. read_as typed_value z place) k.is ∙ no_object k.made place e.of h; ends = k.ends }
 
 ending_named : (e : Ending) (b : Bool) (d : Drafted) → NodeNamed d.tables e.kind → EndingNamed d.tables (plain_ending b e)
 ending_named e true d h = tt
 ending_named e false d h = h
 
-pub takes_value : (e : Ending) (place : Place) (d : Drafted) → NodeNamed d.tables e.kind → TakesValue (term.Value e) place d d (plain_ending (is_object (declared_view e.of)) e)
-takes_value e place d k = record { grown = grown_same d; named = ending_named e (is_object (declared_view e.of)) d k; stands = value_value e (is_object (declared_view e.of)) place refl d }
+pub reads_value : (e : Ending) (place : Place) (d : Drafted) → NodeNamed d.tables e.kind → ReadsValue (term.Value e) place d d (plain_ending (is_object (declared_view e.of)) e)
+reads_value e place d k = record { grown = grown_same d; named = ending_named e (is_object (declared_view e.of)) d k; stands = value_read e (is_object (declared_view e.of)) place refl d }
 
 -- a late-bound member without arguments is looked up
 pub looks_up_bare : (name : ℕ) (d e : Drafted) (number : ℕ) (order : List ℕ) → order ≡ [] → name < length d.tables.constants → AddsOrder order d e number
@@ -169,40 +163,6 @@ reads_early m place d e early named eq =
 pub reads_member : (m : HostMember) (d e : Drafted) (kind : NodeKind) → m.least ≡ 0 → ReadsBare m d e kind → ReadsMember m d e (record { kind = kind; of = m.of })
 reads_member m d e kind least h = record { grown = h.grown; named = h.named; least_is = least; of_is = refl; ends = h.ends }
 
-value_when : (b : Bool) (made : bound.Node) (place : Place) (of : DeclaredType) → b ≡ true → is_object (declared_view of) ≡ false
-    → (if b then typed_value made place (declared_view of) else None) ≡ Some (expr made place (declared_view of) (declared_view of))
-value_when b made place of eq h = ap (λ c. if c then typed_value made place (declared_view of) else None) eq ∙ no_object made place of h
-
-member_valued : (m : HostMember) (place : Place) (d e : Drafted) (v : Ending) → is_object (declared_view m.of) ≡ false → ReadsMember m d e v → (env : Env) (y : plain.Term) (below : List Piece)
-    → TermStands env d.tables (term.HostMember m) y d.pieces below → EndingIs e.tables v place (value_of env y place) e.pieces below
-member_valued m place d e v r h env y below k =
-    let made = member_read k.object (member_is d.tables m) in
-    let lacks : Option bound.Expr = without_arguments env (a_host_member k.object (member_is d.tables m)) place in
-    let P : DeclaredType → Type 0 = λ of. value_of env y place ≡ Some (expr made place (declared_view of) (declared_view of)) in
-    record {
-      made = made;
-      is = subst P (sym h.of_is) (ap (λ z. value_of env z place) k.is ∙ ap (λ (o : Option bound.Expr). or_else o lacks) (value_when (m.least == 0) made place m.of (ap (λ n. n == 0) h.least_is) r));
-      ends = h.ends k.object below k.on_top;
-    }
-
-pub takes_member : (m : HostMember) (place : Place) (d e : Drafted) (v : Ending) → is_object (declared_view m.of) ≡ false → ReadsMember m d e v → TakesValue (term.HostMember m) place d e (Some v)
-takes_member m place d e v r h = record { grown = h.grown; named = h.named; stands = member_valued m place d e v r h }
-
--- a member without the arguments that it needs
-lacking_value : (b : Bool) (value : Option bound.Expr) (broken : bound.Expr) → b ≡ false → or_else (if b then value else None) (if b then None else Some broken) ≡ Some broken
-lacking_value b value broken h = rw h refl
-
-pub takes_lacking : (m : HostMember) (place : Place) (d : Drafted) → (m.least == 0) ≡ false → TakesValue (term.HostMember m) place d d (Some (broken_ending 25 place 1))
-takes_lacking m place d h = record {
-  grown = grown_same d;
-  named = tt;
-  stands = λ env y below k. record {
-    made = marked (record { rule = 25; place = place }) (also k.object no_exprs);
-    is = ap (λ z. value_of env z place) k.is ∙ lacking_value (m.least == 0) (typed_value (member_read k.object (member_is d.tables m)) place (declared_view m.of)) (broken_rule 25 place (also k.object no_exprs)) h;
-    ends = λ n. ap (λ (st : List Piece). put_kind d.tables n (node.Marked (record { rule = 25; place = place }) 1) st) k.on_top;
-  };
-}
-
 pub pushes_sheet : (place : Place) (d e : Drafted) → place ≡ nowhere → e ≡ record d { pieces = put d.tables (node_of node.ActiveSheet place (Plain element.Worksheet)) d.pieces } → PushesSheet d e
 pushes_sheet place d e p eq =
     let P : Drafted → Type 0 = λ x. PushesSheet d x in
@@ -224,62 +184,126 @@ sheet_stands m d e s env y below h = record {
 pub named_still : (m : HostMember) (d e : Drafted) → PushesSheet d e → m.name < length d.tables.constants → m.name < length e.tables.constants
 named_still m d e s h = let P : Tables → Type 0 = λ t. m.name < length t.constants in subst P (sym s.tables_are) h
 
-pub takes_sheet : (m : HostMember) (place : Place) (d s e : Drafted) (v : Option Ending) → PushesSheet d s → TakesValue (term.HostMember m) place s e v → TakesValue (term.SheetMember m) place d e v
-takes_sheet m place d s e v p h = record {
-  grown = grown_twice d s e p.grown h.grown;
-  named = h.named;
-  stands = λ env y below k. h.stands env y below (sheet_stands m d s p env y below k);
-}
-
-pub takes_routine : (r : Routine) (place : Place) (d e : Drafted) (ending : Option Ending) → CallsBare r place d e ending → TakesValue (term.Routine r) place d e ending
-takes_routine r place d e ending h = record { grown = h.grown; named = h.named; stands = h.stands }
-
--- a procedure is called, of an object or of none
-pub value_called : (env : Env) (base : Option bound.Expr) (space : Space) (number : ℕ) (written : Written) (place : Place)
-    → value_of env (routine_term base space number written) place ≡ or_else (value_in typed_value (bare_call env base space number written) place) (lacking_call env base space number written place)
-value_called env None space number written place = refl
-value_called env (Some b) space number written place = refl
-
-pub lacking_called : (env : Env) (base : Option bound.Expr) (space : Space) (number : ℕ) (written : Written) (place : Place)
-    → without_arguments env (routine_term base space number written) place ≡ lacking_call env base space number written place
-lacking_called env None space number written place = refl
-lacking_called env (Some b) space number written place = refl
-
--- a property without a Get gives no value
-no_unread : (env : Env) (base : Option bound.Expr) (space : Space) (number : ℕ) (written : Written) → reader env.scope space number written ≡ None → (place : Place)
-    → value_of env (routine_term base space number written) place ≡ None
-no_unread env base space number written unread place =
-    let found : Option (ℕ × Written) → plain.Term = λ o. if_there (option_map (λ f. call_value env base space f.0 f.1 (bound_arguments (λ of t place. None) (parameters_in env.scope space f.1) [])) o) in
-    let bare : bare_call env base space number written ≡ no_term = ap found unread in
-    let lacks : lacking_call env base space number written place ≡ None = rw unread refl in
-    value_called env base space number written place ∙ ap (λ z. or_else (value_in typed_value z place) (lacking_call env base space number written place)) bare ∙ lacks
-
--- what is no value
+-- what is neither a place nor a value
 pub none_of : (x : Term) → Type 0
-none_of (term.Place kind of bounded lends makes) = ⊥
+none_of (term.Place kind of bounds lends makes) = ⊥
 none_of (term.Value e) = ⊥
-none_of (term.Routine r) = ⊥
-none_of (term.HostMember m) = ⊥
-none_of (term.SheetMember m) = ⊥
 none_of x = Unit {0}
 
-no_value : (t : Tables) (x : Term) → none_of x → (env : Env) (y : plain.Term) (ps below : List Piece) → TermStands env t x y ps below → (place : Place) → value_of env y place ≡ None
-unfolding none_of
-no_value t (term.Place kind of bounded lends makes) n env y ps below h place = absurd n
-no_value t (term.Value e) n env y ps below h place = absurd n
-no_value t (term.Routine r) n env y ps below h place = absurd n
-no_value t (term.HostMember m) n env y ps below h place = absurd n
-no_value t (term.SheetMember m) n env y ps below h place = absurd n
-no_value t (term.Property p) n env y ps below h place = ap (λ z. value_of env z place) h.property.is ∙ no_unread env h.property.base (space_view p.space.now) h.property.number (written_view p.written) h.unread place
-no_value t (term.Function f) n env y ps below h place = ap (λ z. value_of env z place) h.0.is
-no_value t term.Err n env y ps below h place = ap (λ z. value_of env z place) h.0
-no_value t term.ErrRaise n env y ps below h place = ap (λ z. value_of env z place) h.0
-no_value t term.ErrClear n env y ps below h place = ap (λ z. value_of env z place) h.0
-no_value t term.ErrorWord n env y ps below h place = ap (λ z. value_of env z place) h.0
-no_value t term.Nothing n env y ps below h place = ap (λ z. value_of env z place) h
+routine_unread : (typed : bound.Node → Place → Declared → Option bound.Expr) (base : Option bound.Expr) (space : Space) (number : ℕ) (written : Written) (place : Place) → read_as typed (routine_term base space number written) place ≡ None
+routine_unread typed None space number written place = refl
+routine_unread typed (Some b) space number written place = refl
 
-pub takes_none : (x : Term) (place : Place) (d : Drafted) → none_of x → TakesValue x place d d None
-takes_none x place d n = record { grown = grown_same d; named = tt; stands = λ env y below h. no_value d.tables x n env y d.pieces below h place }
+pub not_read : (typed : bound.Node → Place → Declared → Option bound.Expr) (t : Tables) (x : Term) → none_of x → (env : Env) (y : plain.Term) (ps below : List Piece) → TermStands env t x y ps below → (place : Place) → read_as typed y place ≡ None
+unfolding none_of
+not_read typed t (term.Place kind of bounds lends makes) n env y ps below h place = absurd n
+not_read typed t (term.Value e) n env y ps below h place = absurd n
+not_read typed t (term.Routine r) n env y ps below h place =
+    ap (λ z. read_as typed z place) h.routine.is ∙ routine_unread typed h.routine.base h.routine.space h.routine.number h.routine.written place
+not_read typed t (term.HostMember m) n env y ps below h place = ap (λ z. read_as typed z place) h.is
+not_read typed t (term.SheetMember m) n env y ps below h place = ap (λ z. read_as typed z place) h.0
+not_read typed t (term.Property p) n env y ps below h place =
+    ap (λ z. read_as typed z place) h.property.is ∙ routine_unread typed h.property.base (space_view p.space.now) h.property.number (written_view p.written) place
+not_read typed t (term.Function f) n env y ps below h place = ap (λ z. read_as typed z place) h.0.is
+not_read typed t term.Err n env y ps below h place = ap (λ z. read_as typed z place) h.0
+not_read typed t term.ErrRaise n env y ps below h place = ap (λ z. read_as typed z place) h.0
+not_read typed t term.ErrClear n env y ps below h place = ap (λ z. read_as typed z place) h.0
+not_read typed t term.ErrorWord n env y ps below h place = ap (λ z. read_as typed z place) h.0
+not_read typed t term.Nothing n env y ps below h place = ap (λ z. read_as typed z place) h
+
+pub reads_none : (x : Term) (place : Place) (d : Drafted) → none_of x → ReadsValue x place d d None
+reads_none x place d n = record { grown = grown_same d; named = tt; stands = λ env y below h. not_read typed_value d.tables x n env y d.pieces below h place }
+
+-- a term is what it is where it stands alone, as a value
+pub takes_alone : (x : Term) (place : Place) (d m e : Drafted) (made : Term) (ending : Option Ending) → StandsAlone x place d m made → ReadsValue made place m e ending → TakesValue x place d e ending
+takes_alone x place d m e made ending a h = record {
+  grown = grown_twice d m e a.grown h.grown;
+  named = h.named;
+  stands = λ env y below k. h.stands env (alone env place y) below (a.stands env y below k);
+}
+
+-- ---- what stands alone is Err only where that stands
+
+abbrev pub is_err : plain.Term → Bool
+is_err err_object = true
+is_err y = false
+
+or_no_err : (a b : plain.Term) → is_err a ≡ false → is_err b ≡ false → is_err (term_or a b) ≡ false
+or_no_err no_term b h k = k
+or_no_err err_object b h k = h
+or_no_err (plain.a_place x of bounds lends makes) b h k = refl
+or_no_err (plain.a_value n of) b h k = refl
+or_no_err (plain.a_routine space number w) b h k = refl
+or_no_err (plain.a_method base space number w) b h k = refl
+or_no_err (plain.a_function f text_form base) b h k = refl
+or_no_err (a_host_member x m) b h k = refl
+or_no_err plain.err_raise b h k = refl
+or_no_err plain.err_clear b h k = refl
+or_no_err plain.error_word b h k = refl
+
+call_no_err : (env : Env) (base : Option bound.Expr) (space : Space) (number : ℕ) (w : Written) (args : Option bound.Args) → is_err (call_value env base space number w args) ≡ false
+call_no_err env base space number w None = refl
+call_no_err env base space number w (Some args) = refl
+
+bare_no_err : (env : Env) (base : Option bound.Expr) (space : Space) (number : ℕ) (w : Written) → is_err (bare_call env base space number w) ≡ false
+bare_no_err env base space number w = at (reader env.scope space number w)
+  where
+    at : (o : Option (ℕ × Written)) → is_err (if_there (option_map (λ f. call_value env base space f.0 f.1 (bound_arguments (λ of t place. None) (parameters_in env.scope space f.1) [])) o)) ≡ false
+    at None = refl
+    at (Some f) = call_no_err env base space f.0 f.1 (bound_arguments (λ of t place. None) (parameters_in env.scope space f.1) [])
+
+unless_no_err : (b : Bool) (x : bound.Node) (of : Declared) → is_err (if_there (if b then None else Some (plain.a_value x of))) ≡ false
+unless_no_err true x of = refl
+unless_no_err false x of = refl
+
+lacking_no_err : (env : Env) (place : Place) (base : Option bound.Expr) (space : Space) (number : ℕ) (w : Written) → is_err (lacking_call env place base space number w) ≡ false
+lacking_no_err env place base space number w = at (reader env.scope space number w)
+  where
+    at : (o : Option (ℕ × Written))
+        → is_err (if_there (option_and_then (λ f. if takes (parameters_in env.scope space f.1) [] then None else Some (broken_call 25 place (call_type env.scope space f.1) (behind_base base no_exprs))) o)) ≡ false
+    at None = refl
+    at (Some f) = unless_no_err (takes (parameters_in env.scope space f.1) []) (marked (record { rule = 25; place = place }) (behind_base base no_exprs)) (told_type (call_type env.scope space f.1))
+
+called_no_err : (env : Env) (place : Place) (base : Option bound.Expr) (space : Space) (number : ℕ) (w : Written) → is_err (called_alone env place base space number w) ≡ false
+called_no_err env place base space number w =
+    or_no_err (bare_call env base space number w) (lacking_call env place base space number w) (bare_no_err env base space number w) (lacking_no_err env place base space number w)
+
+either_no_err : (b : Bool) (x y : bound.Node) (of other : Declared) → is_err (if b then plain.a_value x of else plain.a_value y other) ≡ false
+either_no_err true x y of other = refl
+either_no_err false x y of other = refl
+
+function_no_err : (env : Env) (place : Place) (f : LibraryFunction) (text_form : Bool) (base : ℕ) (b : Bool) → is_err (function_value env place f text_form base b no_exprs) ≡ false
+function_no_err env place f text_form base true = refl
+function_no_err env place f text_form base false = refl
+
+pub unless_err : (y : plain.Term) (place : Place) → is_err y ≡ false → read_reference y place ≡ read_as typed_reference y place
+unless_err err_object place h = let e : true ≡ false = h in absurd cc
+unless_err (plain.a_place x of bounds lends makes) place h = refl
+unless_err (plain.a_value n of) place h = refl
+unless_err (plain.a_routine space number w) place h = refl
+unless_err (plain.a_method base space number w) place h = refl
+unless_err (plain.a_function f text_form base) place h = refl
+unless_err (a_host_member x m) place h = refl
+unless_err plain.err_raise place h = refl
+unless_err plain.err_clear place h = refl
+unless_err plain.error_word place h = refl
+unless_err no_term place h = refl
+
+-- a term as a reference is what it is where it stands alone, as one
+pub reference_alone : (env : Env) (y : plain.Term) (place : Place) → reference_of env y place ≡ read_reference (alone env place y) place
+reference_alone env err_object place = refl
+reference_alone env (plain.a_place x of bounds lends makes) place = refl
+reference_alone env (plain.a_value n of) place = refl
+reference_alone env (plain.a_routine space number w) place = sym (unless_err (called_alone env place None space number w) place (called_no_err env place None space number w))
+reference_alone env (plain.a_method base space number w) place = sym (unless_err (called_alone env place (Some base) space number w) place (called_no_err env place (Some base) space number w))
+reference_alone env (plain.a_function f text_form base) place =
+    sym (unless_err (function_value env place f text_form base (function_takes f []) no_exprs) place (function_no_err env place f text_form base (function_takes f [])))
+reference_alone env (a_host_member x m) place =
+    sym (unless_err (read_alone place x m) place (either_no_err (m.least == 0) (member_read x m) (marked (record { rule = 25; place = place }) (also x no_exprs)) m.of (told_type m.of)))
+reference_alone env plain.err_raise place = refl
+reference_alone env plain.err_clear place = refl
+reference_alone env plain.error_word place = refl
+reference_alone env no_term place = refl
 
 -- ---- operands
 
@@ -289,7 +313,7 @@ not_err term.Err = ⊥
 not_err x = Unit {0}
 
 Splits : Env → Place → plain.Term → Type 0
-Splits env place z = operand_of env z place ≡ or_else (option_map plain_operand (value_of env z place)) (option_and_then (default_value (declared_in env.scope) place) (reference_of env z place))
+Splits env place z = operand_of env z place ≡ read_operand (declared_in env.scope) (alone env place z) place
 
 split_routine : (env : Env) (base : Option bound.Expr) (space : Space) (number : ℕ) (written : Written) (place : Place) → Splits env place (routine_term base space number written)
 unfolding Splits
@@ -297,9 +321,9 @@ split_routine env None space number written place = refl
 split_routine env (Some b) space number written place = refl
 
 pub operand_split : (env : Env) (t : Tables) (x : Term) → not_err x → (y : plain.Term) (ps below : List Piece) → TermStands env t x y ps below → (place : Place)
-    → operand_of env y place ≡ or_else (option_map plain_operand (value_of env y place)) (option_and_then (default_value (declared_in env.scope) place) (reference_of env y place))
+    → operand_of env y place ≡ read_operand (declared_in env.scope) (alone env place y) place
 unfolding not_err Splits
-operand_split env t (term.Place kind of bounded lends makes) n y ps below h place = subst (Splits env place) (sym h.is) refl
+operand_split env t (term.Place kind of bounds lends makes) n y ps below h place = subst (Splits env place) (sym h.is) refl
 operand_split env t (term.Value e) n y ps below h place = subst (Splits env place) (sym h.is) refl
 operand_split env t (term.Routine r) n y ps below h place =
     subst (Splits env place) (sym h.routine.is) (split_routine env h.routine.base h.routine.space h.routine.number h.routine.written place)
@@ -314,14 +338,9 @@ operand_split env t term.ErrClear n y ps below h place = subst (Splits env place
 operand_split env t term.ErrorWord n y ps below h place = subst (Splits env place) (sym h.0) refl
 operand_split env t term.Nothing n y ps below h place = subst (Splits env place) (sym h) refl
 
--- an ending of what is the same
-pub same_ending : (t : Tables) (ending : Option Ending) (place : Place) (found other : Option bound.Expr) (ps below : List Piece) → other ≡ found → EndingStands t ending place found ps below → EndingStands t ending place other ps below
-same_ending t None place found other ps below e h = e ∙ h
-same_ending t (Some ending) place found other ps below e h = record { made = h.made; is = e ∙ h.is; ends = h.ends }
-
 pub no_err : (x : Term) → ((x ≡ term.Err) → ⊥) → not_err x
 unfolding not_err
-no_err (term.Place kind of bounded lends makes) n = tt
+no_err (term.Place kind of bounds lends makes) n = tt
 no_err (term.Value v) n = tt
 no_err (term.Routine r) n = tt
 no_err (term.Property p) n = tt

@@ -11,7 +11,7 @@ use Rattle.bound_project.specs.Expressions.{expr, not_given, constant, load, loa
 use Rattle.bound_project.specs.Expressions as bound
 use Rattle.bound_project.specs.Pieces.{Piece, an_expr, Tables, arguments_off, as_operand, expr_of, exprs_off, given_off, by_name_in, name_in, order_in, put_kind, sought_in}
 use Rattle.bound_project.specs.View.{base_view, declared_view}
-use Rattle.bound_forms.specs.ExpressionsBound.{host_kind, kind_by_type, kind_of_object, default_rule}
+use Rattle.bound_forms.specs.Operands.{host_kind, kind_by_type, kind_of_object, default_rule}
 use Rattle.bound_calls.specs.declared.term.Ending.{Ending}
 use Rattle.bound_calls.specs.References.{DefaultBreaks, is_typed_kind}
 use Rattle.bound_calls.proofs.LastNodes.{any_node, value_passes, place_passes, both_pass, found_passes, value_found_passes, member_found_passes, named_found_passes, object_found_passes, late_found_passes}

@@ -20,7 +20,8 @@ use Rattle.bound_project.specs.Drafts.{Drafted}
 use Rattle.bound_declarations.specs.constant_values.specs.declared_names.specs.binder.specs.Constants.{is_variant}
 use Rattle.bound_declarations.specs.constant_values.specs.declared_names.specs.binder.specs.Types.{is_object}
 use Rattle.bound_forms.specs.Terms.{Env, Given, given_to, of_other_type}
-use Rattle.bound_forms.specs.ExpressionsBound.{argument_of, taken_for, term_of, place_told}
+use Rattle.bound_forms.specs.Operands.{argument_of, taken_for, place_told}
+use Rattle.bound_forms.specs.ExpressionsBound.{term_of}
 use Rattle.bound_calls.specs.declared.term.Ending.{Ending}
 use Rattle.bound_calls.specs.declared.term.Routine.{Routine}
 use Rattle.bound_calls.specs.declared.term.Term.{Term}
@@ -58,7 +59,7 @@ pub record MarksOther (lent : Ending) (parameter : DeclaredType) (place : Place)
 
 -- the place that a term lends, and its type
 abbrev pub lent_in : Term → Option Ending
-lent_in (term.Place kind of bounded true makes) = Some (record { kind = kind; of = of })
+lent_in (term.Place kind of bounds true makes) = Some (record { kind = kind; of = of })
 lent_in x = None
 
 -- a place that isn't lent is copied, where it is one of another object type, or an element of a Variant variable, or what

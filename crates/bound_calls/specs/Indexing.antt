@@ -16,7 +16,9 @@ use Rattle.bound_project.specs.Pieces as piece
 use Rattle.bound_project.specs.Drafts.{Drafted}
 use Rattle.bound_forms.specs.Terms.{Env}
 use Rattle.bound_forms.specs.ClassDefaults.{declared_in}
-use Rattle.bound_forms.specs.ExpressionsBound.{callee, element_place, givens, indexed, item_of, term_of, place_told}
+use Rattle.bound_forms.specs.Operands.{element_place, place_told}
+use Rattle.bound_forms.specs.Members.{item_of}
+use Rattle.bound_forms.specs.ExpressionsBound.{callee, givens, indexed, term_of}
 use Rattle.bound_calls.specs.declared.term.Term.{Term}
 use Rattle.bound_calls.specs.declared.term.Tree.{Tree}
 use Rattle.bound_calls.specs.declared.term.Target.{Target}
@@ -33,6 +35,8 @@ is_part (kinds.Element count) = true
 is_part (kinds.Field i of bounded) = true
 is_part (kinds.KeptPlace header) = true
 is_part (kinds.ObjectField i of bounded) = true
+is_part (kinds.AsNew c) = true
+is_part (kinds.NewVariable x c) = true
 is_part k = false
 
 -- a place that is indexed: a plain variable, or one that was pushed

@@ -1,27 +1,29 @@
 -- Serves the code: terms that are taken as references to objects.
-use Rattle.std.specs.Prelude.{◌≡◌, ℕ, ◌==◌, Bool, true, false, ◌||◌, ◌&&◌, List, ◌∷◌, map, Option, Some, None, option_map, not, is_some, if◌then◌else◌}
-use Rattle.std.specs.List.{list_all}
+use Rattle.std.specs.Prelude.{◌≡◌, ℕ, Bool, true, false, ◌||◌, ◌&&◌, List, ◌∷◌, Option, Some, None, option_and_then, option_map, not, is_some, if◌then◌else◌}
 use Rattle.vba_base.specs.declared.place.Place.{Place}
 use Rattle.vba_expression.specs.Tree.{Expr}
 use Rattle.bound_project.specs.declared.declared_type.DeclaredType.{DeclaredType}
 use Rattle.bound_project.specs.declared.node.NodeKind.{NodeKind}
 use Rattle.bound_project.specs.declared.node.NodeKind.TheVariants as node
-use Rattle.bound_project.specs.View.{declared_view, parameter_view}
+use Rattle.bound_project.specs.View.{declared_view}
+use Rattle.bound_project.specs.Expressions.{host_object}
 use Rattle.bound_project.specs.Expressions as bound
 use Rattle.bound_project.specs.Pieces.{Piece, Tables, an_expr, name_in}
 use Rattle.bound_project.specs.Drafts.{Drafted, NodeNamed}
 use Rattle.bound_declarations.specs.constant_values.specs.declared_names.specs.binder.specs.Constants.{is_variant}
-use Rattle.bound_forms.specs.Terms.{Env, expression_of, may_lack}
+use Rattle.bound_declarations.specs.constant_values.specs.declared_names.specs.binder.specs.Options.{or_else}
+use Rattle.bound_forms.specs.Terms.{Env, err_object, expression_of, read_as, typed_value}
 use Rattle.bound_forms.specs.Terms as plain
-use Rattle.bound_forms.specs.ExpressionsBound.{may_give_object, has_object, if_any, host_kind, default_rule, reference_of, given_as, term_of, place_told, class_given_way, default_value, is_found_late, is_item_name, is_reference_type, may_be_instance}
+use Rattle.bound_forms.specs.Operands.{may_give_object, has_object, host_kind, default_rule, reference_of, given_as, place_told, class_given_way, default_value, is_found_late, is_item_name, is_reference_type, may_be_instance, plain_operand, typed_reference}
+use Rattle.bound_forms.specs.ExpressionsBound.{if_any, term_of}
 use Rattle.bound_forms.specs.ClassDefaults as plain_defaults
 use Rattle.bound_project.specs.Project.{Declarations}
+use Rattle.vba_values.specs.declared.object.HostRef.TheVariants as host
 use Rattle.vba_values.specs.Types as type
 use Rattle.class_defaults.specs.Known.{known_view}
 use Rattle.class_defaults.specs.declared.known.Known.{Known}
 use Rattle.class_defaults.specs.declared.known.Known.TheVariants as known
 use Rattle.bound_calls.specs.declared.term.Ending.{Ending}
-use Rattle.bound_calls.specs.declared.term.Routine.{Routine}
 use Rattle.bound_calls.specs.declared.term.Term.{Term}
 use Rattle.bound_calls.specs.declared.term.Term.TheVariants as term
 use Rattle.bound_calls.specs.declared.term.Tree.{Tree}
@@ -34,26 +36,17 @@ use Rattle.bound_declarations.specs.constant_values.specs.declared_names.specs.b
 abbrev pub is_referring : DeclaredType → Bool
 is_referring of = is_reference_type (declared_view of) || is_variant (declared_view of)
 
--- a term that is taken as a reference, and is no value: what lacks arguments that it needs is none; one that may be taken as
--- a reference; and one that gives way to its default member's value as an operand
-abbrev pub takes_none : Routine → Bool
-takes_none r = list_all may_lack (map parameter_view r.parameters.now)
-
+-- a term that stands alone and is taken as a reference, and is no value; one that may be taken as a reference; and one that
+-- gives way to its default member's value as an operand
 abbrev pub refers : Term → Bool
-refers (term.Place kind of bounded lends makes) = is_reference_type (declared_view of)
+refers (term.Place kind of bounds lends makes) = is_reference_type (declared_view of)
 refers (term.Value e) = is_reference_type (declared_view e.of)
-refers (term.Routine r) = is_reference_type (declared_view r.of) && takes_none r
-refers (term.HostMember m) = is_reference_type (declared_view m.of) && (m.least == 0)
-refers (term.SheetMember m) = is_reference_type (declared_view m.of) && (m.least == 0)
 refers term.Err = true
 refers x = false
 
 abbrev pub may_refer : Term → Bool
-may_refer (term.Place kind of bounded lends makes) = is_referring of
+may_refer (term.Place kind of bounds lends makes) = is_referring of
 may_refer (term.Value e) = is_referring e.of
-may_refer (term.Routine r) = is_referring r.of
-may_refer (term.HostMember m) = is_referring m.of
-may_refer (term.SheetMember m) = is_referring m.of
 may_refer term.Err = true
 may_refer x = false
 
@@ -201,11 +194,23 @@ pub record PushesAs (wrap : bound.Expr → bound.Expr) (v : Ending) (place : Pla
 
 -- ---- references
 
--- a term is taken as a reference
-pub record TakesReference (x : Term) (d e : Drafted) (ending : Ending) : Type 0 where
+-- what a term that stands alone is as a reference
+abbrev pub read_reference : plain.Term → Place → Option bound.Expr
+read_reference err_object place = Some (expression_of (host_object host.ErrObject) place type.object)
+read_reference y place = read_as typed_reference y place
+
+pub record TakesReference (x : Term) (place : Place) (d e : Drafted) (ending : Ending) : Type 0 where
   pub grown : Grown d e
   pub named : NodeNamed e.tables ending.kind
-  pub stands : (env : Env) (y : plain.Term) (below : List Piece) → TermStands env d.tables x y d.pieces below → (place : Place) → EndingIs e.tables ending place (reference_of env y place) e.pieces below
+  pub stands : (env : Env) (y : plain.Term) (below : List Piece) → TermStands env d.tables x y d.pieces below → EndingIs e.tables ending place (read_reference y place) e.pieces below
+
+-- what one that isn't Err is as an operand, where this is declared
+abbrev pub read_operand : Declarations → plain.Term → Place → Option bound.Expr
+read_operand known y place = or_else (option_map plain_operand (read_as typed_value y place)) (option_and_then (default_value known place) (read_as typed_reference y place))
+
+pub record PushesStanding (known : Declarations) (x : Term) (place : Place) (d e : Drafted) (of : DeclaredType) : Type 0 where
+  pub grown : Grown d e
+  pub stands : (env : Env) (y : plain.Term) (below : List Piece) → TermStands env d.tables x y d.pieces below → PushedIs of (read_operand known y place) e.pieces below
 
 -- a reference that was pushed, by its type
 pub record ReferenceIs (of : DeclaredType) (found : Option bound.Expr) (ps below : List Piece) : Type 0 where
@@ -224,6 +229,15 @@ pub record TakesGiven (x : Term) (place : Place) (d e : Drafted) (ending : Endin
   pub grown : Grown d e
   pub named : NodeNamed e.tables ending.kind
   pub stands : (env : Env) (y : plain.Term) (below : List Piece) → TermStands env d.tables x y d.pieces below → EndingIs e.tables ending place (given_as env y place) e.pieces below
+
+-- the same of one that stands alone
+abbrev pub read_given : plain.Term → Place → Option bound.Expr
+read_given y place = or_else (read_as typed_value y place) (read_reference y place)
+
+pub record ReadsGiven (x : Term) (place : Place) (d e : Drafted) (ending : Ending) : Type 0 where
+  pub grown : Grown d e
+  pub named : NodeNamed e.tables ending.kind
+  pub stands : (env : Env) (y : plain.Term) (below : List Piece) → TermStands env d.tables x y d.pieces below → EndingIs e.tables ending place (read_given y place) e.pieces below
 
 -- an expression is pushed as it is
 pub record PushesGiven (x : Tree) (d e : Drafted) (of : DeclaredType) : Type 0 where

@@ -11,6 +11,8 @@ use Rattle.vba_expression.specs.Tree as tree
 use Rattle.vba_expression.specs.Reader.{name_in}
 use Rattle.vba_expression.specs.Nodes as nodes
 use Rattle.bound_project.specs.declared.declared_type.DeclaredType.{DeclaredType}
+use Rattle.bound_project.specs.declared.declared_type.DeclaredType.TheVariants.{Plain}
+use Rattle.bound_project.specs.declared.declared_type.ElementType.TheVariants.{Variant}
 use Rattle.bound_project.specs.declared.node.NodeKind.{NodeKind}
 use Rattle.bound_project.specs.declared.node.Node.{Node}
 use Rattle.bound_project.specs.declared.node.ArgumentNames.{ArgumentNames}
@@ -37,7 +39,10 @@ use Rattle.bound_forms.specs.Terms.{Env, Given, routine_term, a_place, a_value, 
 use Rattle.bound_forms.specs.Terms as plain
 use Rattle.bound_forms.specs.ClassDefaults.{declared_in}
 use Rattle.bound_declarations.specs.constant_values.specs.declared_names.specs.binder.specs.Signatures.{reader, parameters_in, call_type}
-use Rattle.bound_forms.specs.ExpressionsBound.{callee, item_of, element_place, argument_of, arguments_rule, may_index, member_takes, wrong_arguments, first_given, function_values, givens, indexed, is_wrong, numbers_of, term_of, operand_of, reference_of, place_told, indexed_type, is_found_late, is_host_type, along_of, along_type, along_value, are_places, late_arguments}
+use Rattle.bound_forms.specs.Operands.{element_place, argument_of, first_given, is_wrong, numbers_of, operand_of, reference_of, place_told, indexed_type, is_found_late, is_host_type, along_of, along_type, are_places}
+use Rattle.bound_forms.specs.Members.{item_of}
+use Rattle.bound_forms.specs.Targets.{value_before}
+use Rattle.bound_forms.specs.ExpressionsBound.{callee, arguments_rule, may_index, member_takes, wrong_arguments, function_values, givens, indexed, term_of, along_value, late_arguments}
 use Rattle.bound_calls.specs.declared.term.Dotted.{Dotted}
 use Rattle.bound_calls.specs.declared.term.Ending.{Ending}
 use Rattle.bound_calls.specs.declared.term.Property.{Property}
@@ -79,9 +84,9 @@ PlaceEnds t kind x ps below = (n : Node) → put_kind t n kind ps ≡ piece.a_pl
 abbrev pub ValueEnds : Tables → NodeKind → bound.Node → (ps below : List Piece) → Type 0
 ValueEnds t kind made ps below = (n : Node) → put_kind t n kind ps ≡ expr_of n made ∷ below
 
-pub record PlaceStands (t : Tables) (kind : NodeKind) (of : DeclaredType) (bounded lends makes : Bool) (x : plain.Term) (ps below : List Piece) : Type 0 where
+pub record PlaceStands (t : Tables) (kind : NodeKind) (of : DeclaredType) (bounds : ℕ) (lends makes : Bool) (x : plain.Term) (ps below : List Piece) : Type 0 where
   pub at : Lvalue
-  pub is : x ≡ a_place at (declared_view of) bounded lends makes
+  pub is : x ≡ a_place at (declared_view of) bounds lends makes
   pub ends : PlaceEnds t kind at ps below
 
 pub record ValueStands (t : Tables) (e : Ending) (x : plain.Term) (ps below : List Piece) : Type 0 where
@@ -164,7 +169,7 @@ pub record HostMemberStands (t : Tables) (m : HostMember) (x : plain.Term) (ps b
 
 -- a term of the code is one of the binder; of what isn't bound no piece is told
 abbrev pub TermStands : Env → Tables → Term → plain.Term → (ps below : List Piece) → Type 0
-TermStands env t (term.Place kind of bounded lends makes) x ps below = PlaceStands t kind of bounded lends makes x ps below
+TermStands env t (term.Place kind of bounds lends makes) x ps below = PlaceStands t kind of bounds lends makes x ps below
 TermStands env t (term.Value e) x ps below = ValueStands t e x ps below
 TermStands env t (term.Routine r) x ps below = RoutineStands env r x ps below
 TermStands env t (term.Property p) x ps below = UnreadStands env p x ps below
@@ -271,22 +276,19 @@ AllNumbers value [] [] = Unit {0}
 AllNumbers value (g ∷ gs) (e ∷ es) = NumberIs value g e × AllNumbers value gs es
 AllNumbers value gs es = ⊥
 
--- a plain variable that is indexed, for which nothing is pushed
-pub record VariableIndexed (env : Env) (v : Variable) (of : DeclaredType) (lends : Bool) (place : Place) (x : plain.Term) (ps below : List Piece) : Type 0 where
+-- a plain variable that is indexed, for which nothing is pushed: of an array with bounds, as many numbers as these are must
+-- come
+pub record VariableIndexed (env : Env) (v : Variable) (of : DeclaredType) (bounds : ℕ) (lends makes : Bool) (place : Place) (x : plain.Term) (ps below : List Piece) : Type 0 where
   pub whole : Declared
-  pub bounded : Bool
-  pub makes : Bool
-  pub is : x ≡ a_place (bound.variable (variable_view v)) whole bounded lends makes
+  pub is : x ≡ a_place (bound.variable (variable_view v)) whole bounds lends makes
   pub element_is : indexed_type env (expression_of (read_of makes (bound.variable (variable_view v))) place whole) ≡ Some (declared_view of)
   pub none_pushed : ps ≡ below
 
 -- another place that is indexed, which was pushed
-pub record PlaceIndexed (env : Env) (of : DeclaredType) (lends : Bool) (place : Place) (x : plain.Term) (ps below : List Piece) : Type 0 where
+pub record PlaceIndexed (env : Env) (of : DeclaredType) (bounds : ℕ) (lends makes : Bool) (place : Place) (x : plain.Term) (ps below : List Piece) : Type 0 where
   pub at : Lvalue
   pub whole : Declared
-  pub bounded : Bool
-  pub makes : Bool
-  pub is : x ≡ a_place at whole bounded lends makes
+  pub is : x ≡ a_place at whole bounds lends makes
   pub element_is : indexed_type env (expression_of (read_of makes at) place whole) ≡ Some (declared_view of)
   pub no_variable : (es : Exprs) → element_place at es ≡ bound.element at es
   pub on_top : ps ≡ piece.a_place at ∷ below
@@ -299,22 +301,20 @@ pub record ValueIndexed (env : Env) (of : DeclaredType) (place : Place) (x : pla
 
 -- a place from which arguments lead on as the run says, and a value in which they do, which was pushed; one of a class, by
 -- how many of them there are
-pub record PlaceAlong (env : Env) (of : DeclaredType) (lends : Bool) (place : Place) (x : plain.Term) (ps below : List Piece) : Type 0 where
+pub record PlaceAlong (env : Env) (of : DeclaredType) (lends makes : Bool) (place : Place) (x : plain.Term) (ps below : List Piece) : Type 0 where
   pub at : Lvalue
   pub whole : Declared
-  pub bounded : Bool
-  pub makes : Bool
-  pub is : x ≡ a_place at whole bounded lends makes
+  pub bounds : ℕ
+  pub is : x ≡ a_place at whole bounds lends makes
   pub late : is_found_late env (expression_of (read_of makes at) place whole) ≡ true
   pub of_is : declared_view of ≡ type.variant
   pub on_top : ps ≡ piece.a_place at ∷ below
 
-pub record PlaceLed (env : Env) (count : ℕ) (of : DeclaredType) (lends : Bool) (place : Place) (x : plain.Term) (ps below : List Piece) : Type 0 where
+pub record PlaceLed (env : Env) (count : ℕ) (of : DeclaredType) (lends makes : Bool) (place : Place) (x : plain.Term) (ps below : List Piece) : Type 0 where
   pub at : Lvalue
   pub whole : Declared
-  pub bounded : Bool
-  pub makes : Bool
-  pub is : x ≡ a_place at whole bounded lends makes
+  pub bounds : ℕ
+  pub is : x ≡ a_place at whole bounds lends makes
   pub no_host : is_host_type whole ≡ false
   pub leads : (gs : List Given) → ArePlain count gs → along_type env (expression_of (read_of makes at) place whole) gs ≡ Some (declared_view of)
   pub on_top : ps ≡ piece.a_place at ∷ below
@@ -342,16 +342,16 @@ pub record LedAsPlace (env : Env) (count : ℕ) (of : DeclaredType) (place : Pla
   pub is : (gs : List Given) (es : Exprs) → ArePlain count gs → along_of (along_value env) gs ≡ Some es → indexed env place (item_of env place x) gs ≡ a_value (late_item whole es) (declared_view of)
   pub on_top : ps ≡ piece.a_place (value_place whole) ∷ below
 
-abbrev pub TargetStands : Env → Target → DeclaredType → Bool → Place → plain.Term → (ps below : List Piece) → Type 0
-TargetStands env (target.Variable v) of lends place x ps below = VariableIndexed env v of lends place x ps below
-TargetStands env target.Place of lends place x ps below = PlaceIndexed env of lends place x ps below
-TargetStands env target.Value of lends place x ps below = ValueIndexed env of place x ps below
-TargetStands env target.PlaceAlong of lends place x ps below = PlaceAlong env of lends place x ps below
-TargetStands env target.ValueAlong of lends place x ps below = ValueAlong env of place x ps below
-TargetStands env target.ValueAsPlace of lends place x ps below = ValueAsPlace env of place x ps below
-TargetStands env (target.PlaceLed count) of lends place x ps below = PlaceLed env count of lends place x ps below
-TargetStands env (target.ValueLed count) of lends place x ps below = ValueLed env count of place x ps below
-TargetStands env (target.LedAsPlace count) of lends place x ps below = LedAsPlace env count of place x ps below
+abbrev pub TargetStands : Env → Target → DeclaredType → (bounds : ℕ) → (lends makes : Bool) → Place → plain.Term → (ps below : List Piece) → Type 0
+TargetStands env (target.Variable v) of bounds lends makes place x ps below = VariableIndexed env v of bounds lends makes place x ps below
+TargetStands env target.Place of bounds lends makes place x ps below = PlaceIndexed env of bounds lends makes place x ps below
+TargetStands env target.Value of bounds lends makes place x ps below = ValueIndexed env of place x ps below
+TargetStands env target.PlaceAlong of bounds lends makes place x ps below = PlaceAlong env of lends makes place x ps below
+TargetStands env target.ValueAlong of bounds lends makes place x ps below = ValueAlong env of place x ps below
+TargetStands env target.ValueAsPlace of bounds lends makes place x ps below = ValueAsPlace env of place x ps below
+TargetStands env (target.PlaceLed count) of bounds lends makes place x ps below = PlaceLed env count of lends makes place x ps below
+TargetStands env (target.ValueLed count) of bounds lends makes place x ps below = ValueLed env count of place x ps below
+TargetStands env (target.LedAsPlace count) of bounds lends makes place x ps below = LedAsPlace env count of place x ps below
 
 -- values that were pushed for arguments without names: each is what the list says of the first argument
 pub record ValueIs (value : plain.Term → Place → Option bound.Expr) (g : Given) (e : bound.Expr) : Type 0 where
@@ -381,7 +381,7 @@ NumbersStand env other gs es = AllNumbers (operand_of env) gs es
 -- what is indexed, and the numbers that were pushed
 pub record IndexedStands (env : Env) (x : Indexed) (e : Expr) (args : Args) (ps below : List Piece) : Type 0 where
   pub between : List Piece
-  pub target_is : TargetStands env x.target x.of x.lends (place_told e) (callee env e (term_of env e)) between below
+  pub target_is : TargetStands env x.target x.of x.bounds x.lends x.makes (place_told e) (callee env e (term_of env e)) between below
   pub place_is : x.place ≡ place_told e
   pub made : List bound.Expr
   pub numbers : NumbersStand env x.target (givens env args) made
@@ -478,10 +478,15 @@ abbrev pub ArgumentsStand : Looked → Env → Tables → MemberCall → bound.E
 ArgumentsStand (looked.Early names given) env t x object gs ps below = ValuesStand env t x names given object gs ps below
 ArgumentsStand (looked.Late aim found) env t x object gs ps below = LateStands env t x aim found object gs ps below
 
+-- what brackets stand behind is such a member; where its object is what a property gave, behind some arguments
+abbrev pub TakesMember : (of_property : Bool) → Env → Place → (x member : plain.Term) → Type 0
+TakesMember false env place x member = item_of env place x ≡ member
+TakesMember true env place x member = (g : Given) (gs : List Given) → value_before env place (g ∷ gs) x ≡ member
+
 -- a member whose object was looked at, and the arguments that were pushed for it, by their names
 pub record MemberStands (env : Env) (t : Tables) (x : MemberCall) (e : Expr) (args : Args) (ps below : List Piece) : Type 0 where
   pub object : bound.Expr
-  pub is : item_of env (place_told e) (callee env e (term_of env e)) ≡ a_host_member object (member_is t x.member)
+  pub is : TakesMember x.of_property env (place_told e) (callee env e (term_of env e)) (a_host_member object (member_is t x.member))
   pub place_is : x.place ≡ place_told e
   pub classes : has_class env.scope.spaces ≡ x.has_class
   pub names : NamesCame (names_told t (names_looked x.looked)) x.named (givens env args)
@@ -534,11 +539,20 @@ GatheredAbove env (Some passed) g ps below = GatheredStands env passed g ps belo
 
 -- so many values were pushed before them
 abbrev pub values_before : Refuser → ℕ
-values_before (refuser.Value of) = 1
+values_before (refuser.Procedure values ps of) = values
+values_before (refuser.Value of bounds) = 1
 values_before (refuser.Called of) = 1
 values_before (refuser.Member m) = 1
+values_before (refuser.Behind m) = 1
 values_before (refuser.Led rule count) = 1
-values_before r = 0
+values_before refuser.Bare = 0
+
+-- the declared type of what is called, which says that of what is marked
+abbrev pub refused_type : Refuser → DeclaredType
+refused_type (refuser.Procedure values ps of) = of
+refused_type (refuser.Member m) = m.of
+refused_type (refuser.Behind m) = m.of
+refused_type r = Plain Variant
 
 abbrev pub behind_values : List bound.Expr → Exprs → Exprs
 behind_values [] es = es
@@ -546,11 +560,13 @@ behind_values (x ∷ xs) es = also x (behind_values xs es)
 
 -- the rule that arguments break; none where they are taken, or where that isn't known
 abbrev pub refused_rule : Tables → Refuser → List Given → Option ℕ
-refused_rule t (refuser.Procedure ps) gs = if takes (map parameter_view ps.now) gs then None else Some 25
-refused_rule t (refuser.Value of) gs = if may_index (declared_view of) gs then None else Some 25
+refused_rule t (refuser.Procedure values ps of) gs = if takes (map parameter_view ps.now) gs then None else Some 25
+refused_rule t (refuser.Value of bounds) gs = if may_index (declared_view of) bounds gs then None else Some 25
 refused_rule t (refuser.Called of) [] = None
-refused_rule t (refuser.Called of) (g ∷ gs) = if may_index (declared_view of) (g ∷ gs) then None else Some 25
+refused_rule t (refuser.Called of) (g ∷ gs) = if may_index (declared_view of) 0 (g ∷ gs) then None else Some 25
 refused_rule t (refuser.Member m) gs = if member_takes (member_is t m) gs then None else arguments_rule (member_is t m)
+refused_rule t (refuser.Behind m) [] = None
+refused_rule t (refuser.Behind m) (g ∷ gs) = if member_takes (member_is t m) (g ∷ gs) then None else arguments_rule (member_is t m)
 refused_rule t refuser.Bare [] = None
 refused_rule t refuser.Bare (g ∷ gs) = Some 25
 refused_rule t (refuser.Led rule count) gs = if are_places gs && (length gs == count) then Some rule else None
@@ -561,7 +577,7 @@ pub record UntakenStands (env : Env) (t : Tables) (x : Untaken) (e : Expr) (ps b
   pub before : List bound.Expr
   pub before_long : length before ≡ values_before x.refuser
   pub wrong : (gs : List Given) (rule : ℕ) → refused_rule t x.refuser gs ≡ Some rule
-      → indexed env (place_told e) (item_of env (place_told e) (callee env e (term_of env e))) gs ≡ wrong_arguments env (place_told e) rule (behind_values before) gs
+      → indexed env (place_told e) (item_of env (place_told e) (callee env e (term_of env e))) gs ≡ wrong_arguments env (place_told e) rule (declared_view (refused_type x.refuser)) (behind_values before) gs
   pub on_top : ps ≡ above (map an_expr before) below
 
 -- an argument of one, which was pushed as a Variant takes it
@@ -619,7 +635,7 @@ Stands env t items is ps base = ⊥
 -- ---- numbers of constants that are in the tables
 
 abbrev pub TermNamed : Tables → Term → Type 0
-TermNamed t (term.Place kind of bounded lends makes) = NodeNamed t kind
+TermNamed t (term.Place kind of bounds lends makes) = NodeNamed t kind
 TermNamed t (term.Value e) = NodeNamed t e.kind
 TermNamed t (term.HostMember m) = m.name < length t.constants
 TermNamed t (term.SheetMember m) = m.name < length t.constants
@@ -642,6 +658,7 @@ MemberNamed t x = (x.member.name < length t.constants) × LookedNamed t x.looked
 
 abbrev pub RefuserNamed : Tables → Refuser → Type 0
 RefuserNamed t (refuser.Member m) = m.name < length t.constants
+RefuserNamed t (refuser.Behind m) = m.name < length t.constants
 RefuserNamed t r = Unit {0}
 
 abbrev pub ItemNamed : Tables → Item → Type 0

@@ -14,7 +14,8 @@ use Rattle.bound_project.specs.Drafts.{Drafted, with_constant}
 use Rattle.bound_declarations.specs.constant_values.specs.declared_names.specs.binder.specs.Constants.{operator_kind, unary_kind, compare_in}
 use Rattle.bound_forms.specs.Terms.{Env}
 use Rattle.bound_forms.specs.Terms as plain
-use Rattle.bound_forms.specs.ExpressionsBound.{term_of, value_of, operand_of, unary_term, binary_term, place_told}
+use Rattle.bound_forms.specs.Operands.{value_of, operand_of, place_told}
+use Rattle.bound_forms.specs.ExpressionsBound.{term_of, unary_term, binary_term}
 use Rattle.bound_calls.specs.declared.term.Term.{Term}
 use Rattle.bound_calls.specs.declared.term.Tree.{Tree}
 use Rattle.bound_calls.specs.declared.term.Operand.{Operand}

@@ -18,16 +18,18 @@ use Rattle.bound_project.specs.Drafts.{Drafted, LateNamed, NodeNamed}
 use Rattle.bound_declarations.specs.constant_values.specs.declared_names.specs.binder.specs.Declarations.{Written}
 use Rattle.bound_declarations.specs.constant_values.specs.declared_names.specs.binder.specs.Scopes.{Space}
 use Rattle.bound_declarations.specs.constant_values.specs.declared_names.specs.binder.specs.Types.{is_object}
-use Rattle.bound_forms.specs.Terms.{Env, member_read, no_names, typed_value, routine_term, read_of}
+use Rattle.bound_forms.specs.Terms.{Env, member_read, no_names, typed_value, routine_term, read_as, read_of}
 use Rattle.bound_forms.specs.Terms as plain
-use Rattle.bound_forms.specs.ExpressionsBound.{bare_call, indexed, value_of}
+use Rattle.bound_forms.specs.Operands.{alone, bare_call, read_alone, value_of}
+use Rattle.bound_forms.specs.ExpressionsBound.{indexed}
 use Rattle.bound_calls.specs.declared.term.Ending.{Ending}
+use Rattle.bound_calls.specs.declared.term.Function.{Function}
 use Rattle.bound_calls.specs.declared.term.HostMember.{HostMember}
 use Rattle.bound_calls.specs.declared.term.Receiver.{Receiver}
 use Rattle.bound_calls.specs.declared.term.Receiver.TheVariants as receiver
 use Rattle.bound_calls.specs.declared.term.Routine.{Routine}
 use Rattle.bound_calls.specs.declared.term.Term.{Term}
-use Rattle.bound_calls.specs.Standing.{PlaceEnds, ValueEnds, ValueStands, RoutineStands, TermStands, EndingStands, EndingNamed, PushedStands, Grown, member_is}
+use Rattle.bound_calls.specs.Standing.{FunctionIs, IsReceiver, PlaceEnds, ReceiverStands, TermNamed, ValueEnds, ValueStands, RoutineStands, TermStands, EndingStands, EndingNamed, PushedStands, Grown, member_is}
 
 -- the node that reads a place, where an object is made there first or isn't
 abbrev pub read_kind : (makes : Bool) → NodeKind
@@ -55,27 +57,28 @@ pub record CallsRoutine (r : Routine) (d e : Drafted) (ending : Ending) : Type 0
   pub of_is : ending.of ≡ r.of
   pub stands : (env : Env) (y : plain.Term) (below : List Piece) → RoutineStands env r y d.pieces below → BareIs env e.tables ending y e.pieces below
 
--- the same at a place, where it breaks a rule without the arguments that it needs; what it gives is its value too
+-- the same at a place, where it breaks a rule without the arguments that it needs; no arguments in brackets make the same of
+-- it
 pub record CalledIs (env : Env) (t : Tables) (e : Ending) (place : Place) (y : plain.Term) (ps below : List Piece) : Type 0 where
-  pub called : ValueStands t e (indexed env place y []) ps below
-  pub value_is : value_of env y place ≡ value_of env (indexed env place y []) place
+  pub called : ValueStands t e (alone env place y) ps below
+  pub indexed_is : indexed env place y [] ≡ alone env place y
 
 pub record CallsAt (r : Routine) (place : Place) (d e : Drafted) (ending : Ending) : Type 0 where
   pub grown : Grown d e
   pub named : NodeNamed e.tables ending.kind
   pub stands : (env : Env) (y : plain.Term) (below : List Piece) → RoutineStands env r y d.pieces below → CalledIs env e.tables ending place y e.pieces below
 
--- the same, where that is no object
-pub record CallsBare (r : Routine) (place : Place) (d e : Drafted) (ending : Option Ending) : Type 0 where
-  pub grown : Grown d e
-  pub named : EndingNamed e.tables ending
-  pub stands : (env : Env) (y : plain.Term) (below : List Piece) → RoutineStands env r y d.pieces below → EndingStands e.tables ending place (value_of env y place) e.pieces below
-
 -- a term is taken as a value at a place
 pub record TakesValue (x : Term) (place : Place) (d e : Drafted) (ending : Option Ending) : Type 0 where
   pub grown : Grown d e
   pub named : EndingNamed e.tables ending
   pub stands : (env : Env) (y : plain.Term) (below : List Piece) → TermStands env d.tables x y d.pieces below → EndingStands e.tables ending place (value_of env y place) e.pieces below
+
+-- the same of one that stands alone
+pub record ReadsValue (x : Term) (place : Place) (d e : Drafted) (ending : Option Ending) : Type 0 where
+  pub grown : Grown d e
+  pub named : EndingNamed e.tables ending
+  pub stands : (env : Env) (y : plain.Term) (below : List Piece) → TermStands env d.tables x y d.pieces below → EndingStands e.tables ending place (read_as typed_value y place) e.pieces below
 
 -- the active sheet is pushed
 abbrev pub sheet_expression : bound.Expr
@@ -109,20 +112,63 @@ pub record ReadsMember (m : HostMember) (d e : Drafted) (ending : Ending) : Type
   pub ends : (object : bound.Expr) (below : List Piece) → d.pieces ≡ an_expr object ∷ below
       → ValueEnds e.tables ending.kind (member_read object (member_is d.tables m)) e.pieces below
 
+-- ---- what stands without arguments
+
+-- the type of a call that breaks a rule, of what has a declared type
+abbrev pub told_type : DeclaredType → DeclaredType
+told_type of = if is_object (declared_view of) then Plain Variant else of
+
+-- what breaks a rule, with so many values that were pushed, of what has a declared type
+abbrev pub broken_ending : (rule : ℕ) → Place → (of : DeclaredType) → (values : ℕ) → Ending
+broken_ending rule place of values = record { kind = node.Marked (record { rule = rule; place = place }) values; of = told_type of }
+
+-- how many values stand there of what a procedure is called of
+abbrev pub values_of : Receiver → ℕ
+values_of receiver.Module = 0
+values_of r = 1
+
+-- the object whose procedure isn't called is pushed, where it wasn't
+abbrev pub BaseThere : Option bound.Expr → (ps below : List Piece) → Type 0
+BaseThere None ps below = ps ≡ below
+BaseThere (Some base) ps below = ps ≡ an_expr base ∷ below
+
+pub record PushesObject (r : Receiver) (d e : Drafted) : Type 0 where
+  pub grown : Grown d e
+  pub there : (base : Option bound.Expr) (below : List Piece) → IsReceiver r base → ReceiverStands r base d.pieces below → BaseThere base e.pieces below
+
+-- a procedure without the arguments that it needs: what is marked is what it is called of
+pub record LacksArguments (r : Routine) (place : Place) (d e : Drafted) (ending : Ending) : Type 0 where
+  pub pushed : PushesObject r.receiver d e
+  pub is : ending ≡ broken_ending 25 place r.of (values_of r.receiver)
+
+-- a member of an object that was pushed, and one of the active sheet
+pub record MemberAlone (m : HostMember) (place : Place) (d e : Drafted) (ending : Ending) : Type 0 where
+  pub grown : Grown d e
+  pub named : NodeNamed e.tables ending.kind
+  pub stands : (object : bound.Expr) (below : List Piece) → d.pieces ≡ an_expr object ∷ below
+      → ValueStands e.tables ending (read_alone place object (member_is d.tables m)) e.pieces below
+
+pub record SheetAlone (m : HostMember) (place : Place) (d e : Drafted) (ending : Ending) : Type 0 where
+  pub grown : Grown d e
+  pub named : NodeNamed e.tables ending.kind
+  pub stands : ValueStands e.tables ending (read_alone place sheet_expression (member_is d.tables m)) e.pieces d.pieces
+
+-- a function of the library, for which nothing is pushed
+pub record FunctionAlone (f : Function) (place : Place) (ending : Ending) : Type 0 where
+  pub named : (t : Tables) → NodeNamed t ending.kind
+  pub stands : (env : Env) (t : Tables) (y : plain.Term) (ps : List Piece) → FunctionIs env f y → ValueStands t ending (alone env place y) ps ps
+
+-- a term where no arguments stand behind it
+pub record StandsAlone (x : Term) (place : Place) (d e : Drafted) (made : Term) : Type 0 where
+  pub grown : Grown d e
+  pub named : TermNamed e.tables made
+  pub stands : (env : Env) (y : plain.Term) (below : List Piece) → TermStands env d.tables x y d.pieces below → TermStands env e.tables made (alone env place y) e.pieces below
+
 -- the last node of a value is pushed
 pub record Pushes (ending : Option Ending) (place : Place) (d e : Drafted) (of : Option DeclaredType) : Type 0 where
   pub grown : Grown d e
   pub stands : (found : Option bound.Expr) (below : List Piece) → EndingStands d.tables ending place found d.pieces below → PushedStands of found e.pieces below
 
--- what breaks a rule, with so many values that were pushed
-abbrev pub broken_ending : (rule : ℕ) → Place → (values : ℕ) → Ending
-broken_ending rule place values = record { kind = node.Marked (record { rule = rule; place = place }) values; of = Plain Variant }
-
 -- a value of a type that is no object's
 abbrev pub no_object : Ending → Option Ending
 no_object e = if is_object (declared_view e.of) then None else Some e
-
--- a procedure of a standard module without the arguments that it needs
-pub record LacksArguments (r : Receiver) (place : Place) (ending : Ending) : Type 0 where
-  pub of_module : r ≡ receiver.Module
-  pub is : ending ≡ broken_ending 25 place 0

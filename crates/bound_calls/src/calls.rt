@@ -1,15 +1,13 @@
 ghost use Rattle.std.specs.Prelude.{◌≡◌, IfOk, length, OnOk};
 ghost use Rattle.bound_project.specs.DraftView.{draft_view};
 ghost use Rattle.bound_calls.specs.Calls.{EndsCall, PushesReceiver, call_kind};
-ghost use Rattle.bound_calls.specs.Taking.{CallsAt, CallsBare, CallsRoutine, LacksArguments};
+ghost use Rattle.bound_calls.specs.Taking.{CallsRoutine};
 
 use crate::arguments::{nowhere, pass_rest, sum};
-use crate::shapes::broken_ending;
-use crate::take::{no_object, push_node};
+use crate::take::push_node;
 use crate::term::{Ending, Passed, Receiver, Routine};
 use bound_declarations::NotYet;
 use bound_project::{DeclaredType, Draft, NodeKind, Parameter};
-use class_defaults::takes_none;
 use std::alloc::Global;
 use vba_base::{NoMemory, OrMemory, Place};
 
@@ -97,43 +95,4 @@ pub fn routine_ending<'a>(
         count: 0,
     };
     call_ending(alloc, draft, routine, passed)
-}
-
-/// What a call of a procedure breaks without the arguments that it needs; of an object's that isn't built.
-fn lacking_ending(receiver: Receiver, place: Place) -> Result<Ending, OrMemory<NotYet>>
-    ensures { IfOk result (λ ending. LacksArguments receiver place ending) }
-{
-    match receiver {
-        Receiver::Module => Ok(broken_ending(25, place, 0)),
-        _ => Err(OrMemory::Fault(NotYet)),
-    }
-}
-
-/// What a call without arguments gives, a value or an object, but for its last node; where it needs some it breaks a static
-/// rule.
-pub fn called_ending<'a>(
-    alloc: Global,
-    draft: &mut Draft,
-    routine: Routine<'a>,
-    place: Place,
-) -> Result<Ending, OrMemory<NotYet>>
-    ensures { IfOk result (λ ending. CallsAt routine.entry place (draft_view draft.old) (draft_view draft.new) ending) }
-{
-    if !takes_none(routine.parameters) {
-        return lacking_ending(routine.receiver, place);
-    }
-    routine_ending(alloc, draft, routine)
-}
-
-/// The value of a call without arguments, but for its last node; where it needs some it breaks a static rule.
-pub fn bare_call<'a>(
-    alloc: Global,
-    draft: &mut Draft,
-    routine: Routine<'a>,
-    place: Place,
-) -> Result<Option<Ending>, OrMemory<NotYet>>
-    ensures { IfOk result (λ ending. CallsBare routine.entry place (draft_view draft.old) (draft_view draft.new) ending) }
-{
-    let ending = called_ending(alloc, draft, routine, place)?;
-    Ok(no_object(ending))
 }

@@ -6,20 +6,21 @@ ghost use Rattle.bound_project.specs.DraftView.{draft_view};
 ghost use Rattle.bound_project.specs.Drafts.{NodeNamed};
 ghost use Rattle.bound_project.specs.View.{declarations_view, declared_view};
 ghost use Rattle.bound_declarations.specs.constant_values.specs.declared_names.specs.binder.specs.Types.{is_object};
-ghost use Rattle.bound_forms.specs.ExpressionsBound.{default_rule, if_any, is_host_type, is_item_name, kind_by_type, kind_of_object, may_give_object, plain_operand, is_of_class, is_reference_type};
+ghost use Rattle.bound_forms.specs.Operands.{default_rule, is_host_type, is_item_name, kind_by_type, kind_of_object, may_give_object, plain_operand, is_of_class, is_reference_type};
+ghost use Rattle.bound_forms.specs.ExpressionsBound.{if_any};
 ghost use Rattle.class_defaults.specs.Known.{known_view};
-ghost use Rattle.bound_calls.specs.References.{DefaultBreaks, DefaultIs, EndingGives, PushesAs, PushesGiven, PushesIfAny, PushesReference, TakesGiven, TakesReference, by_rule, gives_way, default_ending, is_referring, is_typed_kind, kind_gives, may_refer, refers, instance_at, is_of_host_kind, IsFoundLate, IsInstance, ends_known, known_instance, known_object, may_be_instance_by, unknown_may};
+ghost use Rattle.bound_calls.specs.References.{DefaultBreaks, DefaultIs, EndingGives, PushesAs, PushesGiven, PushesIfAny, PushesReference, PushesStanding, ReadsGiven, TakesGiven, TakesReference, by_rule, gives_way, default_ending, is_referring, is_typed_kind, kind_gives, may_refer, refers, instance_at, is_of_host_kind, IsFoundLate, IsInstance, ends_known, known_instance, known_object, may_be_instance_by, unknown_may};
 ghost use Rattle.bound_calls.specs.Standing.{TermNamed};
 ghost use Rattle.bound_calls.specs.Steps.{PushesOperand};
 
 use crate::arguments::is_variant;
-use crate::calls::routine_ending;
-use crate::take::{member_ending, push_node, push_sheet, read_kind, value_ending};
+use crate::bare::alone;
+use crate::take::{push_node, read_kind, read_value};
 use crate::term::{Ending, Term, Tree};
 use bound_declarations::constant_values::declared_names::{is_object, is_word};
 use bound_declarations::{NotYet, class_in};
 use bound_project::{Declarations, DeclaredType, Draft, ElementType, ErrMember, NodeKind};
-use class_defaults::{Known, default_read, known_variant, takes_none};
+use class_defaults::{Known, default_read, known_variant};
 use std::alloc::Global;
 use vba_base::{NoMemory, OrMemory, Place, Refusal};
 use vba_lib::LibraryFunction;
@@ -167,37 +168,31 @@ pub fn is_found_late(has_class: bool, draft: &Draft, ending: Ending) -> Option<b
     instance_of(has_class, draft, ending)
 }
 
-/// Is a term taken as a reference, and no value? What lacks arguments that it needs is none.
-pub fn refers<'a>(term: Term<'a>) -> bool
+/// Is a term that stands alone taken as a reference, and no value?
+fn refers<'a>(term: Term<'a>) -> bool
     ensures { result ≡ refers term.entry }
 {
     match term {
         Term::Place { of, .. } => is_reference_type(of),
         Term::Value(ending) => is_reference_type(ending.of),
-        Term::Routine(routine) => is_reference_type(routine.of) && takes_none(routine.parameters),
-        Term::HostMember(member) => is_reference_type(member.of) && member.least == 0,
-        Term::SheetMember(member) => is_reference_type(member.of) && member.least == 0,
         Term::Err => true,
         _ => false,
     }
 }
 
-/// Is a term one that may be taken as a reference?
-pub fn may_refer<'a>(term: Term<'a>) -> bool
+/// Is a term that stands alone one that may be taken as a reference?
+fn may_refer<'a>(term: Term<'a>) -> bool
     ensures { result ≡ may_refer term.entry }
 {
     match term {
         Term::Place { of, .. } => is_referring(of),
         Term::Value(ending) => is_referring(ending.of),
-        Term::Routine(routine) => is_referring(routine.of),
-        Term::HostMember(member) => is_referring(member.of),
-        Term::SheetMember(member) => is_referring(member.of),
         Term::Err => true,
         _ => false,
     }
 }
 
-/// Does a term give way to the value of its default member as an operand? Err is its number at once.
+/// Does a term that stands alone give way to the value of its default member as an operand? Err is its number at once.
 fn gives_way<'a>(term: Term<'a>) -> bool
     ensures { result ≡ gives_way term.entry }
 {
@@ -370,16 +365,15 @@ pub fn has_object(ending: Ending) -> Option<bool>
     kind_gives(ending.kind)
 }
 
-/// A term that is taken as a reference, but for its last node.
+/// A term that stands alone and is taken as a reference, but for its last node.
 fn reference_ending<'a>(
-    alloc: Global,
     draft: &mut Draft,
     term: Term<'a>,
     place: Place,
 ) -> Result<Ending, OrMemory<NotYet>>
     requires named { TermNamed (draft_view draft.old).tables term }
     requires refers { may_refer term ≡ true }
-    ensures { IfOk result (λ ending. TakesReference term.entry (draft_view draft.old) (draft_view draft.new) ending) }
+    ensures { IfOk result (λ ending. TakesReference term.entry place (draft_view draft.old) (draft_view draft.new) ending) }
 {
     match term {
         Term::Place {
@@ -395,12 +389,6 @@ fn reference_ending<'a>(
             })
         }
         Term::Value(ending) => Ok(ending),
-        Term::Routine(routine) => routine_ending(alloc, draft, routine),
-        Term::HostMember(member) => member_ending(alloc, draft, member, place),
-        Term::SheetMember(member) => {
-            push_sheet(draft)?;
-            member_ending(alloc, draft, member, place)
-        }
         Term::Err => Ok(Ending {
             kind: NodeKind::HostObject(HostRef::ErrObject),
             of: DeclaredType::Plain(ElementType::Object),
@@ -418,32 +406,35 @@ pub fn push_reference<'a>(
     requires { TermNamed (draft_view draft.old).tables tree.term }
     ensures { IfOk result (λ of. PushesReference tree.entry (draft_view draft.old) (draft_view draft.new) of) }
 {
-    if !may_refer(tree.term) {
+    let made = alone(alloc, draft, tree.term, tree.place)?;
+    if !may_refer(made) {
         return Err(OrMemory::Fault(NotYet));
     }
-    let ending = reference_ending(alloc, draft, tree.term, tree.place)?;
+    let ending = reference_ending(draft, made, tree.place)?;
     push_node(draft, ending.kind, ending.of, tree.place)?;
     Ok(ending.of)
 }
 
-/// Pushes an expression as an object that gives way to the value of its default member; answers the type of that.
+/// Pushes a term that stands alone as an object that gives way to the value of its default member; answers the type of
+/// that.
 fn push_default<'a>(
-    alloc: Global,
     draft: &mut Draft,
-    tree: Tree<'a>,
-) -> Result<Option<DeclaredType>, OrMemory<NotYet>>
-    requires named { TermNamed (draft_view draft.old).tables tree.term }
-    requires gives { gives_way tree.term ≡ true }
-    ensures { IfOk result (λ of. PushesOperand tree.entry (draft_view draft.old) (draft_view draft.new) of) }
+    declared: &Declarations,
+    term: Term<'a>,
+    place: Place,
+) -> Result<DeclaredType, OrMemory<NotYet>>
+    requires named { TermNamed (draft_view draft.old).tables term }
+    requires gives { gives_way term ≡ true }
+    ensures { IfOk result (λ of. PushesStanding (declarations_view declared.now) term.entry place (draft_view draft.old) (draft_view draft.new) of) }
 {
-    let ending = reference_ending(alloc, draft, tree.term, tree.place)?;
-    let found = default_known(tree.declared, ending)?;
-    let Some(behind) = default_ending(found, tree.place) else {
+    let ending = reference_ending(draft, term, place)?;
+    let found = default_known(declared, ending)?;
+    let Some(behind) = default_ending(found, place) else {
         return Err(OrMemory::Fault(NotYet));
     };
-    push_node(draft, ending.kind, ending.of, tree.place)?;
-    push_node(draft, behind.kind, behind.of, tree.place)?;
-    Ok(Some(behind.of))
+    push_node(draft, ending.kind, ending.of, place)?;
+    push_node(draft, behind.kind, behind.of, place)?;
+    Ok(behind.of)
 }
 
 /// Pushes the number of Err.
@@ -508,8 +499,27 @@ fn push_ending_if_any(
     Ok(variant)
 }
 
-/// Pushes a value as an operand; answers its type.
-fn push_value_plainly<'a>(
+/// Pushes a term that stands alone as an operand, and is no Err; answers its type.
+fn push_standing<'a>(
+    draft: &mut Draft,
+    declared: &Declarations,
+    term: Term<'a>,
+    place: Place,
+) -> Result<DeclaredType, OrMemory<NotYet>>
+    requires { TermNamed (draft_view draft.old).tables term }
+    ensures { IfOk result (λ of. PushesStanding (declarations_view declared.now) term.entry place (draft_view draft.old) (draft_view draft.new) of) }
+{
+    if gives_way(term) {
+        return push_default(draft, declared, term, place);
+    }
+    let Some(ending) = read_value(draft, term, place)? else {
+        return Err(OrMemory::Fault(NotYet));
+    };
+    push_plainly(draft, ending, place)
+}
+
+/// Pushes an expression that isn't Err as an operand; answers its type.
+fn push_other<'a>(
     alloc: Global,
     draft: &mut Draft,
     tree: Tree<'a>,
@@ -518,10 +528,8 @@ fn push_value_plainly<'a>(
     requires other { tree.term ≢ Term.Err }
     ensures { IfOk result (λ of. PushesOperand tree.entry (draft_view draft.old) (draft_view draft.new) (Some of)) }
 {
-    let Some(ending) = value_ending(alloc, draft, tree.term, tree.place)? else {
-        return Err(OrMemory::Fault(NotYet));
-    };
-    push_plainly(draft, ending, tree.place)
+    let made = alone(alloc, draft, tree.term, tree.place)?;
+    push_standing(draft, tree.declared, made, tree.place)
 }
 
 /// Pushes an expression as an operand; answers its type.
@@ -533,19 +541,34 @@ pub fn push_operand<'a>(
     requires { TermNamed (draft_view draft.old).tables tree.term }
     ensures { IfOk result (λ of. PushesOperand tree.entry (draft_view draft.old) (draft_view draft.new) of) }
 {
-    if gives_way(tree.term) {
-        return push_default(alloc, draft, tree);
-    }
     match tree.term {
         Term::Err => {
             let of = push_err(draft, tree)?;
             Ok(Some(of))
         }
         _ => {
-            let of = push_value_plainly(alloc, draft, tree)?;
+            let of = push_other(alloc, draft, tree)?;
             Ok(Some(of))
         }
     }
+}
+
+/// A term that stands alone as it is, a value or a reference, but for its last node.
+fn read_given<'a>(
+    draft: &mut Draft,
+    term: Term<'a>,
+    place: Place,
+) -> Result<Ending, OrMemory<NotYet>>
+    requires { TermNamed (draft_view draft.old).tables term }
+    ensures { IfOk result (λ ending. ReadsGiven term.entry place (draft_view draft.old) (draft_view draft.new) ending) }
+{
+    if refers(term) {
+        return reference_ending(draft, term, place);
+    }
+    let Some(ending) = read_value(draft, term, place)? else {
+        return Err(OrMemory::Fault(NotYet));
+    };
+    Ok(ending)
 }
 
 /// A term at a place as it is, a value or a reference, but for its last node.
@@ -558,13 +581,8 @@ pub fn given_ending<'a>(
     requires { TermNamed (draft_view draft.old).tables term }
     ensures { IfOk result (λ ending. TakesGiven term.entry place (draft_view draft.old) (draft_view draft.new) ending) }
 {
-    if refers(term) {
-        return reference_ending(alloc, draft, term, place);
-    }
-    let Some(ending) = value_ending(alloc, draft, term, place)? else {
-        return Err(OrMemory::Fault(NotYet));
-    };
-    Ok(ending)
+    let made = alone(alloc, draft, term, place)?;
+    read_given(draft, made, place)
 }
 
 /// Pushes an expression as it is, a value or a reference; answers its type.

@@ -4,15 +4,18 @@ ghost use Rattle.std.specs.Prelude.{◌≡◌, ◌≤◌, IfOk, OnOk, Some, drop
 ghost use Rattle.std.specs.List.{list_all};
 ghost use Rattle.bound_project.specs.DraftView.{draft_view};
 ghost use Rattle.bound_project.specs.Pieces.{put};
+ghost use Rattle.bound_project.specs.declared.declared_type.DeclaredType.TheVariants.{Plain};
+ghost use Rattle.bound_project.specs.declared.declared_type.ElementType.TheVariants.{Variant};
 ghost use Rattle.bound_project.specs.View.{parameter_view};
 ghost use Rattle.bound_forms.specs.Terms as plain;
 ghost use Rattle.bound_calls.specs.Calls.{node_of};
 ghost use Rattle.bound_calls.specs.Shapes.{has_enough, is_called, shapes_given, with_shape, with_shapes};
-ghost use Rattle.bound_calls.specs.Taking.{broken_ending};
+ghost use Rattle.bound_calls.specs.Taking.{broken_ending, told_type};
 
 use crate::stack::{put_item, take_item};
 use crate::take::push_node;
 use crate::term::{Ending, Item, Shape};
+use bound_declarations::constant_values::declared_names::is_object;
 use bound_project::{DeclaredType, Draft, ElementType, NodeKind, Parameter};
 use class_defaults::{may_lack, takes_none};
 use std::alloc::Global;
@@ -148,24 +151,36 @@ pub fn takes<'a>(
     Ok(takes_none(left))
 }
 
-/// What breaks a rule: so many values that were pushed, but for the last node.
-pub fn broken_ending(rule: u8, place: Place, values: u32) -> Ending
-    ensures { result ≡ broken_ending rule place values }
+/// The type of a call that breaks a rule, of what has a declared type: an object is none.
+pub fn told_type(of: DeclaredType) -> DeclaredType
+    ensures { result ≡ told_type of }
+{
+    if is_object(of) {
+        DeclaredType::Plain(ElementType::Variant)
+    } else {
+        of
+    }
+}
+
+/// What breaks a rule: so many values that were pushed, but for the last node, of what has a declared type.
+pub fn broken_ending(rule: u8, place: Place, of: DeclaredType, values: u32) -> Ending
+    ensures { result ≡ broken_ending rule place of values }
 {
     Ending {
         kind: NodeKind::Marked {
             broken: Refusal { rule, place },
             values,
         },
-        of: DeclaredType::Plain(ElementType::Variant),
+        of: told_type(of),
     }
 }
 
-/// Pushes what breaks a rule: so many values that were pushed.
+/// Pushes what breaks a rule, as a Variant: so many values that were pushed.
 pub fn push_broken(draft: &mut Draft, rule: u8, place: Place, values: u32) -> Result<(), NoMemory>
-    ensures { OnOk result (draft_view draft.new ≡ record (draft_view draft.old) { pieces = put (draft_view draft.old).tables (node_of (broken_ending rule place values).kind place (broken_ending rule place values).of) (draft_view draft.old).pieces }) }
+    ensures { OnOk result (draft_view draft.new ≡ record (draft_view draft.old) { pieces = put (draft_view draft.old).tables (node_of (broken_ending rule place (Plain Variant) values).kind place (broken_ending rule place (Plain Variant) values).of) (draft_view draft.old).pieces }) }
 {
-    let ending = broken_ending(rule, place, values);
+    let variant = DeclaredType::Plain(ElementType::Variant);
+    let ending = broken_ending(rule, place, variant, values);
     push_node(draft, ending.kind, ending.of, place)
 }
 

@@ -4,12 +4,11 @@ ghost use Rattle.bound_project.specs.Drafts.{NodeNamed};
 ghost use Rattle.bound_project.specs.Pieces.{put};
 ghost use Rattle.bound_calls.specs.Calls.{node_of};
 ghost use Rattle.bound_calls.specs.Standing.{EndingNamed, TermNamed};
-ghost use Rattle.bound_calls.specs.Taking.{Loads, LooksUpBare, Pushes, PushesSheet, ReadsBare, ReadsMember, TakesValue, no_object, read_kind};
+ghost use Rattle.bound_calls.specs.Taking.{Loads, LooksUpBare, Pushes, PushesSheet, ReadsBare, ReadsMember, ReadsValue, TakesValue, no_object, read_kind};
 
 use crate::arguments::nowhere;
-use crate::calls::bare_call;
+use crate::bare::alone;
 use crate::orders::order_number;
-use crate::shapes::broken_ending;
 use crate::term::{Ending, HostMember, Term};
 use bound_declarations::NotYet;
 use bound_declarations::constant_values::declared_names::is_object;
@@ -185,39 +184,25 @@ pub fn push_sheet(draft: &mut Draft) -> Result<(), NoMemory>
     push_node(draft, NodeKind::ActiveSheet, worksheet, nowhere())
 }
 
-/// A member of the active sheet as a value.
-fn sheet_value(
-    alloc: Global,
+/// A term that stands alone as a value, but for the last node of that.
+pub fn read_value<'a>(
     draft: &mut Draft,
-    member: HostMember,
+    term: Term<'a>,
     place: Place,
-) -> Result<Option<Ending>, OrMemory<NotYet>>
-    requires { member.name < length (draft_view draft.old).tables.constants }
-    ensures { IfOk result (λ ending. TakesValue (Term.SheetMember member) place (draft_view draft.old) (draft_view draft.new) ending) }
+) -> Result<Option<Ending>, NoMemory>
+    requires { TermNamed (draft_view draft.old).tables term }
+    ensures { IfOk result (λ ending. ReadsValue term.entry place (draft_view draft.old) (draft_view draft.new) ending) }
 {
-    push_sheet(draft)?;
-    member_value(alloc, draft, member, place)
-}
-
-/// A member of an object of the host as a value; one that gives an object is a reference, and one that needs arguments
-/// breaks a static rule.
-fn member_value(
-    alloc: Global,
-    draft: &mut Draft,
-    member: HostMember,
-    place: Place,
-) -> Result<Option<Ending>, OrMemory<NotYet>>
-    requires { member.name < length (draft_view draft.old).tables.constants }
-    ensures { IfOk result (λ ending. TakesValue (Term.HostMember member) place (draft_view draft.old) (draft_view draft.new) ending) }
-{
-    if member.least != 0 {
-        return Ok(Some(broken_ending(25, place, 1)));
+    match term {
+        Term::Place {
+            kind,
+            of,
+            makes,
+            ..
+        } => load(draft, kind, of, makes, place),
+        Term::Value(ending) => Ok(no_object(ending)),
+        _ => Ok(None),
     }
-    if is_object(member.of) {
-        return Err(OrMemory::Fault(NotYet));
-    }
-    let ending = member_ending(alloc, draft, member, place)?;
-    Ok(Some(ending))
 }
 
 /// A term as a value, but for the last node of that.
@@ -230,22 +215,9 @@ pub fn value_ending<'a>(
     requires { TermNamed (draft_view draft.old).tables term }
     ensures { IfOk result (λ ending. TakesValue term.entry place (draft_view draft.old) (draft_view draft.new) ending) }
 {
-    match term {
-        Term::Place {
-            kind,
-            of,
-            makes,
-            ..
-        } => {
-            let ending = load(draft, kind, of, makes, place)?;
-            Ok(ending)
-        }
-        Term::Value(ending) => Ok(no_object(ending)),
-        Term::Routine(routine) => bare_call(alloc, draft, routine, place),
-        Term::HostMember(member) => member_value(alloc, draft, member, place),
-        Term::SheetMember(member) => sheet_value(alloc, draft, member, place),
-        _ => Ok(None),
-    }
+    let made = alone(alloc, draft, term, place)?;
+    let ending = read_value(draft, made, place)?;
+    Ok(ending)
 }
 
 /// Pushes the last node of a value that begins at a place; answers its type.

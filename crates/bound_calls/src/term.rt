@@ -69,12 +69,13 @@ pub struct HostMember {
 /// in the source.
 #[derive(Clone, Copy)]
 pub enum Term<'a> {
-    /// A place, its type, whether it is an array with declared bounds, whether it is lent to a ByRef parameter, and whether
-    /// an object is made there where it is read, as of a variable declared As New.
+    /// A place, its type, with how many bounds it is declared as an array (0 without any), whether it is lent to a ByRef
+    /// parameter, and whether an object is made there, or in an element of it, where that is read, as of a variable
+    /// declared As New.
     Place {
         kind: NodeKind,
         of: DeclaredType,
-        is_bounded: bool,
+        bounds: u32,
         lends: bool,
         makes: bool,
     },
@@ -178,14 +179,15 @@ pub enum Looked {
 }
 
 /// A member of an object whose arguments are read: the place of its first token, the member, how it was looked up, whether
-/// the project has a class, how many arguments were pushed behind the object, and how many of these are written and have
-/// names.
+/// the project has a class, whether a property gave its object, behind which some arguments must come, how many arguments
+/// were pushed behind the object, and how many of these are written and have names.
 #[derive(Clone, Copy)]
 pub struct MemberCall {
     pub place: Place,
     pub member: HostMember,
     pub looked: Looked,
     pub has_class: bool,
+    pub of_property: bool,
     pub count: u32,
     pub written: u32,
     pub named: u32,
@@ -209,13 +211,17 @@ pub enum Target {
 }
 
 /// A place or a value whose numbers in brackets are read: the place of its first token, what is indexed, the type of an
-/// element, whether an element is lent to a ByRef parameter, and how many numbers were pushed.
+/// element, whether an element of a place is lent to a ByRef parameter, whether an object is made there where it is read,
+/// with how many bounds the place is declared as an array, which is as many numbers as must come (0: any), and how many
+/// numbers were pushed.
 #[derive(Clone, Copy)]
 pub struct Indexed {
     pub place: Place,
     pub target: Target,
     pub of: DeclaredType,
     pub lends: bool,
+    pub makes: bool,
+    pub bounds: u32,
     pub count: u32,
 }
 
@@ -226,17 +232,30 @@ pub struct Shape<'a> {
     pub is_written: bool,
 }
 
-/// What doesn't take the arguments that are read: a procedure with these parameters; a value of a type, one that a property
-/// gave which is called without arguments, or a member and its object, which were pushed; what takes none at all; and an
-/// object of a class, which was pushed, behind which so many arguments that are all written, without names, break a rule.
+/// What doesn't take the arguments that are read: a procedure, of which so many values were pushed (the object that it is
+/// called of, or none), with these parameters, and the type of what it gives; a value of a type, or of an array that is
+/// declared with so many bounds (0: none), one that a property gave which is called without arguments, a member and its
+/// object, or a member and its object that such a property gave, which were pushed; what takes none at all; and an object
+/// of a class, which was pushed, behind which so many arguments that are all written, without names, break a rule.
 #[derive(Clone, Copy)]
 pub enum Refuser<'a> {
-    Procedure(&'a [Parameter]),
-    Value(DeclaredType),
+    Procedure {
+        values: u32,
+        parameters: &'a [Parameter],
+        of: DeclaredType,
+    },
+    Value {
+        of: DeclaredType,
+        bounds: u32,
+    },
     Called(DeclaredType),
     Member(HostMember),
+    Behind(HostMember),
     Bare,
-    Led { rule: u8, count: u32 },
+    Led {
+        rule: u8,
+        count: u32,
+    },
 }
 
 /// What doesn't take its arguments, and the place of its first token. Each argument stands above it.

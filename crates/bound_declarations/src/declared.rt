@@ -1,7 +1,6 @@
 //! Variables and results as they are declared.
 
-ghost use Rattle.std.specs.Prelude.{◌≡◌, [], IfOk, option_map};
-ghost use Rattle.constant_values.specs.declared_names.specs.binder.specs.Storage.{has_bounds};
+ghost use Rattle.std.specs.Prelude.{◌≡◌, [], IfOk, length, option_map};
 ghost use Rattle.constant_values.specs.declared_names.specs.binder.specs.Storage as storage;
 ghost use Rattle.bound_declarations.specs.Forms.{declared_as, redimmed_as};
 ghost use Rattle.bound_project.specs.Project as project;
@@ -60,17 +59,34 @@ pub fn variable_type(
     arrayed(variable.dims.is_some(), of)
 }
 
-/// Is a variable an array that is declared with bounds?
-pub fn is_bounded(
+/// How many bounds there are.
+fn bound_count(bounds: &[Bound]) -> Result<u32, NoMemory>
+    ensures { IfOk result (λ count. count ≡ length bounds.now) }
+{
+    match u32::try_from(bounds.len()) {
+        Ok(count) => Ok(count),
+        Err(_) => Err(NoMemory),
+    }
+}
+
+/// With how many bounds is a variable declared as an array? With none where it is none.
+pub fn bounds_written(
     alloc: Global,
     constants: Constants,
     variable: &Variable,
-) -> Result<bool, NoMemory>
+) -> Result<u32, NoMemory>
     requires { AreConstants constants }
-    ensures { IfOk result (λ is. is ≡ has_bounds (storage.declared_variable (scope_view constants.entry.scope) (variable_view variable.now))) }
+    ensures { IfOk result (λ count. count ≡ length (storage.declared_variable (scope_view constants.entry.scope) (variable_view variable.now)).bounds) }
 {
     let bounds = known_bounds(alloc, constants, &variable.dims)?;
-    Ok(!bounds.is_empty())
+    bound_count(bounds.as_slice())
+}
+
+/// The same of what is declared.
+pub fn bounds_declared(declaration: &Declaration) -> Result<u32, NoMemory>
+    ensures { IfOk result (λ count. count ≡ length (declaration_view declaration.now).bounds) }
+{
+    bound_count(declaration.bounds.as_slice())
 }
 
 /// A variable.

@@ -18,7 +18,8 @@ mod types;
 mod user_types;
 
 pub use declared::{
-    declared_result, declared_variable, is_bounded, own_declaration, variable_type,
+    bounds_declared, bounds_written, declared_result, declared_variable, own_declaration,
+    variable_type,
 };
 pub use handler_names::{CHANGE, is_handler_name};
 pub use kept::{Kept, count_before, count_kept, first_locals, is_kept, sum};

@@ -32,7 +32,17 @@ pub fn made_in(of: DeclaredType) -> Option<u32>
     }
 }
 
-/// The class of which an object is made for a variable of a type, by its clause.
+/// What an array has elements of, or else a type itself.
+fn element_in(of: DeclaredType) -> DeclaredType
+    ensures { declared_view result ≡ classes.element_in (declared_view of) }
+{
+    match of {
+        DeclaredType::ArrayOf(element) => DeclaredType::Plain(element),
+        DeclaredType::Plain(element) => DeclaredType::Plain(element),
+    }
+}
+
+/// The class of which an object is made for a variable of a type, or for each element of an array, by its clause.
 pub fn made_by(clause: &Option<NewTypeClause>, of: DeclaredType) -> Option<u32>
     ensures { result ≡ classes.made_by (option_map new_type_clause_view clause.now) (declared_view of) }
 {
@@ -40,16 +50,17 @@ pub fn made_by(clause: &Option<NewTypeClause>, of: DeclaredType) -> Option<u32>
         None => None,
         Some(clause) => match clause.new_word {
             None => None,
-            Some(_) => made_in(of),
+            Some(_) => made_in(element_in(of)),
         },
     }
 }
 
-/// May a variable of a type have an object?
+/// May a variable of a type have an object, or an element of it?
 fn can_hold_object(of: DeclaredType) -> bool
     ensures { result ≡ classes.can_hold_object (declared_view of) }
 {
-    is_object(of) || is_variant(of)
+    let element = element_in(of);
+    is_object(element) || is_variant(element)
 }
 
 /// May what a parameter of a type leads to be declared As New, in a project that declares a variable so or doesn't?

@@ -13,7 +13,7 @@ use Rattle.vba_values.specs.Val.{whole}
 use Rattle.bound_project.specs.Expressions.{Variable, Expr, binary, call, not_given, variable, item, err_value, err_number, host_object, active_sheet, no_args, by_copy, by_default, by_list, Exprs, no_exprs, also, shared, in_order}
 use Rattle.bound_project.specs.Statements.{Action, Statement, evaluate, assign}
 use Rattle.bound_forms.proofs.BoundRows.{bound_to, e, n, at, v, show, jumping}
-use Rattle.bound_forms.proofs.BrokenRows.{mark, way, alone}
+use Rattle.bound_forms.proofs.BrokenRows.{mark, mark_as, way, alone}
 
 abbrev two : Exprs
 two = also (n 1) (alone (n 2))
@@ -32,19 +32,19 @@ unfolding bound_to folded caseless digits
 two_for_one = refl
 
 other_name : bound_to (codes "Sub Main()\nDebug.Print 1 + F(b:=2)\nEnd Sub\nFunction F(a As Long) As Long\nEnd Function")
-    ≡ first (show (e type.variant (binary op.Add Binary (n 1) (way (mark 25 2 17 (alone (n 2))))))) ∷ [] ∷ []
+    ≡ first (show (e type.long (binary op.Add Binary (n 1) (mark_as type.long 25 2 17 (alone (n 2)))))) ∷ [] ∷ []
 unfolding bound_to folded caseless digits
 other_name = refl
 
-given_twice : bound_to (codes "Sub Main()\nDebug.Print F(1, a:=2)\nEnd Sub\nFunction F(a, Optional b) As Long\nEnd Function") ≡ first (show (way (mark 25 2 13 two))) ∷ [] ∷ []
+given_twice : bound_to (codes "Sub Main()\nDebug.Print F(1, a:=2)\nEnd Sub\nFunction F(a, Optional b) As Long\nEnd Function") ≡ first (show (mark_as type.long 25 2 13 two)) ∷ [] ∷ []
 unfolding bound_to folded caseless digits
 given_twice = refl
 
-named_twice : bound_to (codes "Sub Main()\nDebug.Print F(a:=1, a:=2)\nEnd Sub\nFunction F(a, Optional b) As Long\nEnd Function") ≡ first (show (way (mark 25 2 13 two))) ∷ [] ∷ []
+named_twice : bound_to (codes "Sub Main()\nDebug.Print F(a:=1, a:=2)\nEnd Sub\nFunction F(a, Optional b) As Long\nEnd Function") ≡ first (show (mark_as type.long 25 2 13 two)) ∷ [] ∷ []
 unfolding bound_to folded caseless digits
 named_twice = refl
 
-name_of_many : bound_to (codes "Sub Main()\nDebug.Print F(a:=1)\nEnd Sub\nFunction F(ParamArray a()) As Long\nEnd Function") ≡ first (show (way (mark 25 2 13 (alone (n 1))))) ∷ [] ∷ []
+name_of_many : bound_to (codes "Sub Main()\nDebug.Print F(a:=1)\nEnd Sub\nFunction F(ParamArray a()) As Long\nEnd Function") ≡ first (show (mark_as type.long 25 2 13 (alone (n 1)))) ∷ [] ∷ []
 unfolding bound_to folded caseless digits
 name_of_many = refl
 
@@ -56,7 +56,7 @@ not_written = refl
 
 -- a name alone, as a value; and a property that is assigned to
 alone_in_value : bound_to (codes "Dim x\nSub Main()\nx = F\nEnd Sub\nFunction F(a) As Long\nEnd Function")
-    ≡ first (assign (variable (record (at type.variant 0) { storage = shared 0 })) (way (mark 25 3 5 no_exprs))) ∷ [] ∷ []
+    ≡ first (assign (variable (record (at type.variant 0) { storage = shared 0 })) (mark_as type.long 25 3 5 no_exprs)) ∷ [] ∷ []
 unfolding bound_to folded caseless digits
 alone_in_value = refl
 

@@ -81,8 +81,8 @@ by_reference : bound_to (codes "Dim g As Long\nSub Main()\nDebug.Print F(g, (g))
 unfolding bound_to folded caseless digits
 by_reference = refl
 
--- where binding stops: an array that is declared As New
-left_variable : ran_all (of_one (codes "Sub Main()\nDebug.Print 1\nDim o(1) As New Collection\nEnd Sub")) ≡ left_at 1 3 1
+-- where binding stops: a public array of a class that is declared As New
+left_variable : ran_all ((false, codes "Sub Main()\nEnd Sub") ∷ (true, codes "\nPublic o(1) As New Collection") ∷ []) ≡ left_at 2 2 1
 unfolding ran_all folded caseless digits
 left_variable = refl
 

@@ -5,6 +5,7 @@ use Rattle.caseless.proofs.Computing.{caseless}
 use Rattle.vba_base.specs.Fold.{folded}
 use Rattle.vba_values.specs.declared.types.OpKind.TheVariants as op
 use Rattle.vba_values.specs.declared.types.Compare.TheVariants.{Binary}
+use Rattle.vba_values.specs.Types.{Declared}
 use Rattle.vba_values.specs.Types as type
 use Rattle.vba_values.specs.declared.object.ObjRef.TheVariants.{Nothing}
 use Rattle.vba_values.specs.Val.{object, text}
@@ -16,6 +17,10 @@ use Rattle.bound_forms.proofs.BoundRows.{bound_to, e, n, at, v, show, jumping}
 -- a mark of the first module
 abbrev pub mark : (rule line column : ℕ) → Exprs → Expr
 mark rule line column es = e type.variant (marked (record { rule = rule; place = record { «module» = 1; line = line; column = column } }) es)
+
+-- the same of a call of a declared type
+abbrev pub mark_as : Declared → (rule line column : ℕ) → Exprs → Expr
+mark_as of rule line column es = e of (marked (record { rule = rule; place = record { «module» = 1; line = line; column = column } }) es)
 
 -- as an operand, since it may be an object
 abbrev pub way : Expr → Expr

@@ -13,7 +13,7 @@ use Rattle.bound_project.specs.Project.{Declarations, Body, Project}
 use Rattle.bound_project.specs.Project as bound
 use Rattle.binder.specs.Sources.{Source}
 use Rattle.binder.specs.Options.{or_else, from_two}
-use Rattle.binder.specs.Declarations.{Written}
+use Rattle.binder.specs.Declarations.{Written, is_public_word}
 use Rattle.binder.specs.Scopes.{Outside, Space, Scope, spaces_from}
 use Rattle.binder.specs.Names.{scope_of, scope_in}
 use Rattle.binder.specs.Types.{TypeMeant, known, of_host, type_meant}
@@ -40,7 +40,7 @@ body_with parts statements = record { statements = statements; blocks = blocks_i
 abbrev pub bound_body : Scope → ℕ × Written → Option Body
 bound_body s p = let a = around_of s p in option_map (body_with a.parts) (all_statements a a.parts)
 
--- ---- what isn't built: arrays declared As New, and types that the profile hasn't
+-- ---- what isn't built: public arrays of a class that are declared As New, and types that the profile hasn't
 
 abbrev pub is_built_meant : Option TypeMeant → Bool
 is_built_meant (Some (known of)) = true
@@ -60,12 +60,13 @@ abbrev pub is_built_clause : Scope → Option TypeSuffix → Option TypeClause �
 is_built_clause s x None = is_built_suffix x
 is_built_clause s x (Some c) = is_built_suffix x && is_built_written s c.declared_type
 
-abbrev pub is_built_new : Scope → (is_array : Bool) → Option TypeSuffix → Option NewTypeClause → Bool
-is_built_new s is_array x None = is_built_suffix x
-is_built_new s is_array x (Some c) = is_built_suffix x && (not (is_array && is_some c.new_word) && is_built_written s c.declared_type)
+abbrev pub is_built_new : Scope → (is_open_array : Bool) → Option TypeSuffix → Option NewTypeClause → Bool
+is_built_new s is_open_array x None = is_built_suffix x
+is_built_new s is_open_array x (Some c) = is_built_suffix x && (not (is_open_array && is_some c.new_word) && is_built_written s c.declared_type)
 
-abbrev pub is_built_variable : Scope → Variable → Bool
-is_built_variable s v = is_built_new s (is_some v.dims) v.name.suffix v.type_clause
+-- a variable, which objects show or not
+abbrev pub is_built_variable : Scope → (is_open : Bool) → Variable → Bool
+is_built_variable s is_open v = is_built_new s (is_open && is_some v.dims) v.name.suffix v.type_clause
 
 abbrev pub is_built_parameter : Scope → Parameter → Bool
 is_built_parameter s p = is_built_clause s p.name.suffix p.type_clause
@@ -76,7 +77,7 @@ is_built_result s (Some r) = is_built_written s r.declared_type
 
 -- a declaration; other parts are told by what they are bound to
 abbrev pub is_built_part : Scope → Part → Bool
-is_built_part s (statement (simple (variables word token vs))) = list_all (is_built_variable s) (all_of vs)
+is_built_part s (statement (simple (variables word token vs))) = list_all (is_built_variable s (s.here.source.is_class && is_public_word word)) (all_of vs)
 is_built_part s (whole_line (type_member x dims clause)) = is_built_written s clause.declared_type
 is_built_part s (whole_line (procedure_header access static_word kind x ps result)) =
     is_built_suffix x.suffix && (is_built_result s result && list_all (is_built_parameter s) (parameters_of ps))

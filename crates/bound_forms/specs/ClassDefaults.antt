@@ -4,12 +4,14 @@
 use Rattle.std.specs.Prelude.{ℕ, zero, suc, ◌==◌, Bool, true, false, ◌||◌, not, List, length, Option, Some, None, if◌then◌else◌, slice_index_or}
 use Rattle.vba_values.specs.Types.{Declared}
 use Rattle.vba_values.specs.Types as type
-use Rattle.vba_meaning.specs.Defaults.{any_must, has_parameters, last_type, without_last}
+use Rattle.bound_project.specs.Parameters.{any_must, has_parameters, last_type, without_last}
 use Rattle.bound_project.specs.Project.{Class, Declarations, Member, is_variable, is_procedure, is_property, Procedure, class_at, no_declaration, procedure_at}
+use Rattle.vba_meaning.specs.Defaults.{most_passed}
 use Rattle.binder.specs.Names.{scope_of}
 use Rattle.binder.specs.Projects.{declarations_of, no_space}
 use Rattle.binder.specs.Scopes.{Scope}
 use Rattle.binder.specs.Types.{is_object}
+use Rattle.binder.specs.Constants.{is_variant}
 use Rattle.bound_forms.specs.Terms.{Given, has_names, takes}
 
 -- all that the project of a scope declares
@@ -36,22 +38,18 @@ field_type c i = (slice_index_or c.fields i no_declaration).of
 abbrev pub procedure_read : Procedure → Known
 procedure_read p = known_or (not (any_must p.parameters)) 25 p.result.of
 
--- S34 where a class has no default member; nothing is said of a property without a Get
+-- S34 where a class has no default member, or one that is a property without a Get
 abbrev pub member_read : Declarations → Class → Option Member → Known
 member_read d c None = breaks 34
 member_read d c (Some (is_variable i makes)) = known (field_type c i)
 member_read d c (Some (is_procedure p)) = procedure_read (procedure_at d p)
 member_read d c (Some (is_property (Some p) lets sets)) = procedure_read (procedure_at d p)
-member_read d c (Some (is_property None lets sets)) = not_said
+member_read d c (Some (is_property None lets sets)) = breaks 34
 
 abbrev pub default_read : Declarations → (class : ℕ) → Known
 default_read d number = member_read d (class_at d number) (class_at d number).default
 
 -- ---- arguments in brackets behind an object
-
--- how many default members may pass arguments, or a value, on to what they give
-abbrev pub most_passed : ℕ
-most_passed = 8
 
 -- behind what is of no class: numbers lead to an element, one argument to an item of a Collection, two to a cell of a
 -- range; a sheet has no default member; of an Object and a Variant the run says it
@@ -73,7 +71,7 @@ member_led pass d c None gs = breaks 34
 member_led pass d c (Some (is_variable i makes)) gs = pass (field_type c i)
 member_led pass d c (Some (is_procedure p)) gs = procedure_led pass (procedure_at d p) gs
 member_led pass d c (Some (is_property (Some p) lets sets)) gs = procedure_led pass (procedure_at d p) gs
-member_led pass d c (Some (is_property None lets sets)) gs = not_said
+member_led pass d c (Some (is_property None lets sets)) gs = breaks 34
 
 -- what arguments lead to behind something of a type, through so many default members that pass them on; S25 for more
 abbrev pub led_by : Declarations → List Given → (left : ℕ) → Declared → Known
@@ -94,13 +92,15 @@ other_written type.object = known type.variant
 other_written type.range = known type.variant
 other_written of = breaks 27
 
--- a Let takes the value where its other parameters need none; nothing is said where it takes an object itself
+-- a Let takes the value where its other parameters need none, or S25; nothing is said where it takes an object itself
 abbrev pub let_written : Procedure → Known
-let_written p = if is_object (last_type p.parameters) || any_must (without_last p.parameters) then not_said else known type.variant
+let_written p =
+    if is_object (last_type p.parameters) then not_said
+    else known_or (not (any_must (without_last p.parameters))) 25 type.variant
 
--- what only gives an object passes the value on
+-- what only gives an object passes the value on; S27 where it needs arguments for that
 abbrev pub reader_written : (pass : Declared → Known) → Procedure → Known
-reader_written pass p = if any_must p.parameters then not_said else pass p.result.of
+reader_written pass p = if any_must p.parameters then breaks 27 else pass p.result.of
 
 abbrev pub member_written : (none : ℕ) → (pass : Declared → Known) → Declarations → Class → Option Member → Known
 member_written none pass d c None = breaks none
@@ -108,7 +108,7 @@ member_written none pass d c (Some (is_variable i makes)) = if is_object (field_
 member_written none pass d c (Some (is_procedure p)) = reader_written pass (procedure_at d p)
 member_written none pass d c (Some (is_property reads (Some p) sets)) = let_written (procedure_at d p)
 member_written none pass d c (Some (is_property (Some p) None sets)) = reader_written pass (procedure_at d p)
-member_written none pass d c (Some (is_property None None sets)) = not_said
+member_written none pass d c (Some (is_property None None sets)) = breaks 27
 
 -- a value is written to something of a type, through so many default members that pass it on; S27 for more
 abbrev pub written_by : Declarations → (left : ℕ) → Declared → Known
@@ -139,10 +139,10 @@ abbrev pub reader_let : (pass : Declared → Known) → Declarations → Procedu
 reader_let pass d p gs = if has_parameters p.parameters then result_let d p gs else pass p.result.of
 
 abbrev pub property_let : (pass : Declared → Known) → Declarations → Option ℕ → List Given → Known
-property_let pass d None gs = not_said
+property_let pass d None gs = breaks 27
 property_let pass d (Some p) gs = reader_let pass d (procedure_at d p) gs
 
--- a Let takes the arguments and the value, or S25; one that takes no arguments isn't asked
+-- a Let takes the arguments and the value, or S25; one that takes no arguments isn't asked. S27: what is a Set alone
 abbrev pub member_let : (pass : Declared → Known) → Declarations → Class → Option Member → List Given → Known
 member_let pass d c None gs = breaks 34
 member_let pass d c (Some (is_variable i makes)) gs = pass (field_type c i)
@@ -168,7 +168,7 @@ other_set type.object gs = known type.variant
 other_set type.collection gs = if length gs == 1 then breaks 27 else breaks 25
 other_set type.range gs = if length gs == 2 then breaks 27 else breaks 25
 other_set type.worksheet gs = breaks 34
-other_set (type.array_of of) gs = if is_object of then known of else not_said
+other_set (type.array_of of) gs = if is_object of || is_variant of then known of else not_said
 other_set of gs = breaks 25
 
 -- what takes the arguments and only gives something can't be set
@@ -176,7 +176,7 @@ abbrev pub reader_set : (pass : Declared → Known) → Procedure → List Given
 reader_set pass p gs = if has_parameters p.parameters then (if takes p.parameters gs then breaks 27 else breaks 25) else pass p.result.of
 
 abbrev pub property_set : (pass : Declared → Known) → Declarations → Option ℕ → List Given → Known
-property_set pass d None gs = not_said
+property_set pass d None gs = breaks 27
 property_set pass d (Some p) gs = reader_set pass (procedure_at d p) gs
 
 abbrev pub member_set : (pass : Declared → Known) → Declarations → Class → Option Member → List Given → Known

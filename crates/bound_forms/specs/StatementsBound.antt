@@ -1,6 +1,5 @@
 -- The statements of a procedure in one list ([MS-VBAL] 5.4).
-use Rattle.std.specs.Prelude.{ℕ, zero, suc, ◌+◌, ◌==◌, Bool, true, false, ◌&&◌, ◌||◌, not, bytes_eq, pos, List, [], ◌∷◌, ◌++◌, length, codes, Option, Some, None, is_some, option_map, option_and_then, if◌then◌else◌}
-use Rattle.std.specs.List.{list_any}
+use Rattle.std.specs.Prelude.{ℕ, zero, suc, ◌+◌, ◌==◌, Bool, true, false, ◌&&◌, ◌||◌, not, bytes_eq, pos, List, ◌∷◌, ◌++◌, length, codes, Option, Some, None, is_some, option_map, option_and_then, unwrap_or, if◌then◌else◌, []}
 use Rattle.vba_base.specs.declared.place.Place.{Place}
 use Rattle.vba_values.specs.Comparison.{is_number}
 use Rattle.vba_values.specs.Types.{Declared}
@@ -9,7 +8,6 @@ use Rattle.vba_values.specs.Val.{Val, missing, whole}
 use Rattle.vba_values.specs.Coerce.{is_same_type}
 use Rattle.vba_words.specs.declared.identifier.Identifier.{Identifier}
 use Rattle.vba_expression.specs.Tree.{Expr, name, index}
-use Rattle.vba_tree.specs.declared.procedure.ProcedureWords.{ProcedureWords}
 use Rattle.vba_tree.specs.declared.block.LoopWord.{LoopWord}
 use Rattle.vba_tree.specs.declared.simple.ExitKind.{ExitKind}
 use Rattle.vba_tree.specs.declared.simple.ErrorHandling.{ErrorHandling}
@@ -21,34 +19,32 @@ use Rattle.vba_module.specs.Parts.{Part, statement, place_of}
 use Rattle.vba_module.specs.Blocks.{for_loop, do_loop, same_kind}
 use Rattle.vba_module.specs.Headers.{all_of}
 use Rattle.vba_module.specs.Misplaced.{statement_place}
-use Rattle.bound_project.specs.Expressions.{Variable, Node, constant, load, element_value, late_item, enumerated, err_value, marked, Lvalue, variable, Exprs, no_exprs, also, Prints, no_prints, shown, zone, method, item, element, field, kept_place, object_field, as_new, element_along, late_field, value_place}
+use Rattle.bound_project.specs.Expressions.{Variable, constant, enumerated, Lvalue, variable, Exprs, no_exprs, also, Prints, no_prints, shown, zone, item, element, field, kept_place, object_field, as_new, element_along, late_field, value_place}
 use Rattle.bound_project.specs.Expressions as bound
 use Rattle.bound_project.specs.Statements.{Statement, Action, Tests, no_tests, test_is, test_range, passed_on, skipped, handled_at, Resizes, no_resizes, resize, Arrays, no_arrays, an_array}
 use Rattle.bound_project.specs.Statements as to
 use Rattle.bound_project.specs.Project.{Parameter, DeclaredEvent, nowhere}
 use Rattle.binder.specs.Sources.{base_of}
 use Rattle.binder.specs.Options.{or_else, from_two, from_three}
-use Rattle.binder.specs.Declarations.{Written, Own, a_parameter}
-use Rattle.binder.specs.Scopes.{Space, first_at, plainly, Meant, of_procedure, declares}
+use Rattle.binder.specs.Scopes.{first_at}
 use Rattle.binder.specs.Constants.{is_variant, operator_kind, compare_in, home, place_of_expression, known_length}
-use Rattle.binder.specs.Storage.{procedure_number, gives_value}
 use Rattle.binder.specs.Types.{written_type, is_object}
 use Rattle.binder.specs.Numbering.{count, count_list, simple_count, here, an_arm, behind_block, behind_kind, Opened, Standing, sought_behind}
-use Rattle.bound_forms.specs.Terms.{Within, Env, HostMember, Term, a_place, a_value, a_routine, a_host_member, err_object, err_raise, err_clear, error_word, no_term, expression_of, broken_rule, is_user_type, given_to, Given, bound_arguments, has_names, takes, given_by_name, a_method, read_of, routine_term}
-use Rattle.binder.specs.Signatures.{is_property, writer, parameters_in, setter}
-use Rattle.bound_forms.specs.ExpressionsBound.{bare_call, HostKind, sheets, collection, is_item_name, host_kind, default_rule, member_takes, arguments_rule, given_as, argument_of, has_object, mark_members, item_of, late_arguments, is_called_late, member_called, takes_arguments, indexed, callee, term_of, givens, bound_as_given, bound_operand, place_told, may_be_instance, is_found_late, behind_base, variant_arguments, is_of_class}
-use Rattle.binder.specs.Classes.{class_in}
-use Rattle.bound_forms.specs.ClassDefaults.{Known, known, breaks, not_said, class_let, class_set, class_written, declared_in}
+use Rattle.bound_forms.specs.Terms.{Within, Env, Term, a_place, a_value, a_routine, a_host_member, err_raise, err_clear, error_word, expression_of, broken_rule, is_user_type, Given, bound_arguments, has_names, a_method}
+use Rattle.bound_forms.specs.ClassDefaults.{breaks}
 use Rattle.binder.specs.EventTables.{declared_events}
 use Rattle.binder.specs.Blocks.{label_number, next_number, header_of}
 use Rattle.vba_values.specs.declared.types.OpKind.TheVariants as op
 use Rattle.vba_values.specs.declared.types.WholeKind.TheVariants as kind
-use Rattle.vba_tree.specs.declared.procedure.ProcedureWords.TheVariants as words
 use Rattle.vba_tree.specs.declared.block.LoopWord.TheVariants as loop_word
 use Rattle.vba_tree.specs.declared.simple.ExitKind.TheVariants as exits
 use Rattle.vba_tree.specs.declared.simple.ErrorHandling.TheVariants as handling
 use Rattle.vba_tree.specs.declared.simple.ResumeTarget.TheVariants as target
 use Rattle.vba_tree.specs.declared.simple.PrintMark.TheVariants as print_mark
+use Rattle.bound_forms.specs.Operands.{place_told, may_be_instance, alone, given_as, argument_of}
+use Rattle.bound_forms.specs.Members.{item_of}
+use Rattle.bound_forms.specs.ExpressionsBound.{indexed, callee, term_of, givens, bound_as_given, bound_operand}
+use Rattle.bound_forms.specs.Targets.{untaken, assigned_to, value_given, set_given}
 
 -- ---- the procedure round a statement
 
@@ -60,17 +56,10 @@ pub record Around : Type 0 where
 
 -- ---- With blocks
 
--- a procedure that stands alone is called
-abbrev pub settled : Env → Term → Term
-settled env (a_routine space number p) = bare_call env None space number p
-settled env (a_method base space number p) = bare_call env (Some base) space number p
-settled env t = t
-
 -- what the With block with this header keeps
 abbrev pub keeps : ℕ → Term → Option Within
-keeps header (a_place x of bounded lends makes) = Some (record { header = header; of = of; lends = lends })
+keeps header (a_place x of bounds lends makes) = Some (record { header = header; of = of; lends = lends })
 keeps header (a_value node of) = Some (record { header = header; of = of; lends = false })
-keeps header (a_host_member e m) = Some (record { header = header; of = m.of; lends = false })
 keeps header other = None
 
 abbrev pub with_object : Part → Option Expr
@@ -80,7 +69,7 @@ with_object part = None
 -- a block by what it keeps, where it is a With, or else what stands round it
 abbrev pub with_or : Option Expr → Env → ℕ → Option Within → Option Within
 with_or None env header outside = outside
-with_or (Some e) env header outside = keeps header (settled env (term_of (record env { within = outside }) e))
+with_or (Some e) env header outside = keeps header (alone env (place_told e) (term_of (record env { within = outside }) e))
 
 -- the nearest With block of those that stand open
 abbrev pub within : Env → List Opened → Option Within
@@ -92,10 +81,6 @@ abbrev pub env_at : Around → Standing → Env
 env_at a s = record a.env { within = within a.env s.around }
 
 -- ---- simple statements
-
--- S25: arguments that parameters don't take, each as a Variant takes it
-abbrev pub untaken : Env → List Parameter → List Given → Option Exprs
-untaken env ps gs = if takes ps gs then None else variant_arguments env gs
 
 -- what is called with arguments
 abbrev pub raise_parameter : List ℕ → Declared → Option Val → Parameter
@@ -132,368 +117,6 @@ abbrev pub called_place : Env → Expr → Option Action
 called_place env (index base left args right) = called_with env base (givens env args)
 called_place env e = called_with env e []
 
--- [Let] target = value
-
--- what breaks a rule as the target of an assignment, with the value and what the target is written with
-abbrev pub broken_target : (rule : ℕ) → Place → (value : bound.Expr) → Exprs → Action
-broken_target rule place v es = to.evaluate (broken_rule rule place (also v es))
-
--- a property of a standard module, or of an object, is given a value, or an object itself
-abbrev pub property_given : (itself : Bool) → Option bound.Expr → (procedure : ℕ) → bound.Args → bound.Expr → Declared → Action
-property_given false None q args v of = to.let_property q args v of
-property_given true None q args v of = to.set_property q args v of
-property_given false (Some base) q args v of = to.let_method base q args v of
-property_given true (Some base) q args v of = to.set_method base q args v of
-
--- a property by the procedure that takes the value behind the other arguments
-abbrev pub given_behind : (itself : Declared → Bool) → Env → Option bound.Expr → Place → Space → List Given → bound.Expr → ℕ × Written → Option Action
-given_behind itself env base place space gs v f = at (parameters_in env.scope space f.1)
-  where
-    but_last : List Parameter → List Parameter
-    but_last [] = []
-    but_last (p ∷ []) = []
-    but_last (p ∷ ps) = p ∷ but_last ps
-
-    value_type : List Parameter → Declared
-    value_type [] = type.variant
-    value_type (p ∷ []) = p.of
-    value_type (p ∷ ps) = value_type ps
-
-    at : List Parameter → Option Action
-    at ps =
-        or_else
-        (option_map (λ args. property_given (itself (value_type ps)) base (procedure_number env.scope space f.0) args v (value_type ps)) (bound_arguments (argument_of env) (but_last ps) gs))
-        (option_map (λ es. broken_target 25 place v (behind_base base es)) (untaken env (but_last ps) gs))
-
--- a value parameter of an object type is given the object itself
-abbrev pub let_to : Env → Option bound.Expr → Place → Space → List Given → bound.Expr → ℕ × Written → Option Action
-let_to env base place space gs v f = given_behind is_object env base place space gs v f
-
--- the default member of an object is written: that of a range is Value, a sheet has none, and of a Variant the run decides
-abbrev pub has_written_default : Declared → Bool
-has_written_default type.range = true
-has_written_default type.object = true
-has_written_default type.variant = true
-has_written_default other = false
-
--- the rule that such an assignment breaks before the run: Worksheets and a Collection have a default member that can't be
--- written, S27; the others without one are S34
-abbrev pub write_rule : Option HostKind → Option ℕ
-write_rule (Some sheets) = Some 27
-write_rule (Some collection) = Some 27
-write_rule kind = default_rule kind
-
--- of an Object or a Variant the run decides, and the default member of an object of a class may be written through others
-abbrev pub written_through : Env → (target v : bound.Expr) → Action
-written_through env target v = if may_be_instance env target then to.assign_through target v else to.assign_default target v
-
-abbrev pub written_or_broken : Env → Option ℕ → Place → (target : bound.Expr) → Declared → bound.Expr → Option Action
-written_or_broken env (Some rule) place target of v = Some (broken_target rule place v (also target no_exprs))
-written_or_broken env None place target of v =
-    if has_written_default of then Some (written_through env target v) else None
-
--- what is declared as of a class, whose default member is known before the run
-abbrev pub class_written_or_broken : Env → Known → Place → (target v : bound.Expr) → Option Action
-class_written_or_broken env (known of) place target v = Some (written_through env target v)
-class_written_or_broken env (breaks rule) place target v = Some (broken_target rule place v (also target no_exprs))
-class_written_or_broken env not_said place target v = None
-
-abbrev pub default_written : Env → Place → Node → Declared → bound.Expr → Option Action
-default_written env place node (type.class number) v =
-    class_written_or_broken env (class_written (declared_in env.scope) number) place (expression_of node place (type.class number)) v
-default_written env place node of v = written_or_broken env (write_rule (host_kind node of)) place (expression_of node place of) of v
-
--- a member of an object is written: one that can be, or the default member of the object that it gives, as of an item of
--- a Collection; of an object of an unknown kind the run decides
-abbrev pub is_written_member : HostMember → Bool
-is_written_member m =
-    not (is_some m.greatest) || bytes_eq m.name (codes "value") || (is_object m.of && has_written_default m.of) || is_item_name m.name
-    || list_any (λ (w : HostMember). bytes_eq m.name w.name) mark_members
-
--- arguments behind a member that takes none would index its value, of which nothing is kept
-abbrev pub fits_written : HostMember → List Given → Bool
-fits_written m [] = m.least == 0
-fits_written m gs = takes_arguments m (length gs) && has_written_default m.of
-
--- where arguments have names the default member of what the member gives is written; Err.Raise gives nothing
-abbrev pub named_written : Env → Place → bound.Expr → HostMember → List Given → bound.Expr → Option Action
-named_written env place e m gs v =
-    if bytes_eq m.name (codes "raise") || may_be_instance env v then None
-    else option_map (λ node. to.assign_default (expression_of node place m.of) v) (member_called env e m gs)
-
--- a member that the run finds, and one whose value or arguments may be objects of classes
-abbrev pub late_written : Env → bound.Expr → HostMember → List Given → bound.Expr → Option Action
-late_written env e m gs v = from_two (λ by given. to.assign_late e m.name by given v) (given_by_name gs) (late_arguments env gs)
-
-abbrev pub arguments_written : Env → Place → bound.Expr → HostMember → List Given → bound.Expr → Option Action
-arguments_written env place e m gs v =
-    if has_names gs && not m.late then named_written env place e m gs v
-    else if may_be_instance env v || is_called_late env m gs then late_written env e m gs v
-    else option_map (λ es. to.assign_member e m.name es v) (variant_arguments env gs)
-
--- the rule that an assignment to another member breaks: S27, but S34 where it gives a sheet; and before that what its
--- arguments break
-abbrev pub unwritten_rule : Declared → Option ℕ
-unwritten_rule type.worksheet = Some 34
-unwritten_rule type.object = None
-unwritten_rule of = Some 27
-
-abbrev pub written_rule : HostMember → List Given → Option ℕ
-written_rule m [] = if not (m.least == 0) then Some 25 else if is_written_member m then None else unwritten_rule m.of
-written_rule m gs =
-    if not (member_takes m gs) then arguments_rule m else if is_written_member m && has_written_default m.of then None else unwritten_rule m.of
-
-abbrev pub wrong_written : Env → Place → bound.Expr → (rule : Option ℕ) → List Given → bound.Expr → Option Action
-wrong_written env place e rule gs v = from_two (λ r es. broken_target r place v (also e es)) rule (variant_arguments env gs)
-
-abbrev pub member_written : Env → Place → bound.Expr → HostMember → List Given → bound.Expr → Option Action
-member_written env place e m gs v =
-    or_else (if is_written_member m && fits_written m gs then arguments_written env place e m gs v else None)
-    (wrong_written env place e (written_rule m gs) gs v)
-
--- S27: a constant, what Err tells, a use of a function of the library, and what a Function gives that is no object
-abbrev pub is_unassignable : Node → Bool
-is_unassignable (constant v) = true
-is_unassignable (err_value m) = true
-is_unassignable (bound.library f text_form es compare base) = true
-is_unassignable (bound.call procedure args) = true
-is_unassignable (method e procedure args) = true
-is_unassignable node = false
-
-abbrev pub not_assignable : Place → bound.Expr → Node → Declared → Action
-not_assignable place v node of = broken_target 27 place v (also (expression_of node place of) no_exprs)
-
--- an item of a value that no variable has: of an array of objects the default member of the element is written, and else
--- the run decides whether there is an array or an object; of another value the default member is written. S27: Me
-abbrev pub value_written : Env → Place → bound.Expr → Node → Declared → Option Action
-value_written env place v (late_item e es) of = if is_of_class (bound.operand_type e) then None else Some (to.assign_element (value_place e) es v)
-value_written env place v (element_value e es) of = if is_object of then default_written env place (element_value e es) of v else Some (to.assign_item e es v)
-value_written env place v (bound.library f text_form es compare base) of = Some (not_assignable place v (bound.library f text_form es compare base) of)
-value_written env place v bound.this of = Some (not_assignable place v bound.this of)
-value_written env place v node of =
-    if is_object of || has_object node of then default_written env place node of v
-    else if is_unassignable node then Some (not_assignable place v node of)
-    else None
-
--- a procedure is assigned to: a property by its Let; without a Let the default member of what a Function or a Get gives is
--- written; a Sub gives nothing
-abbrev pub property_assigned : Env → Option bound.Expr → Place → Space → List Given → bound.Expr → ℕ → Written → Option Action
-property_assigned env base place space gs v number p = at (writer env.scope space p)
-  where
-    value_of_call : Term → Option Action
-    value_of_call (a_value node of) = value_written env place v node of
-    value_of_call t = None
-
-    at : Option (ℕ × Written) → Option Action
-    at (Some f) = let_to env base place space gs v f
-    at None = if gives_value p.kind then value_of_call (indexed env place (routine_term base space number p) []) else None
-
--- a value is assigned to a place, which holds no object: an element to which arguments lead takes it, or what they lead to does
-abbrev pub place_assigned : Lvalue → bound.Expr → Action
-place_assigned (element_along x es) v = to.assign_element x es v
-place_assigned x v = to.assign x v
-
--- a value is assigned to what a term means
-abbrev pub assigned : Env → Place → bound.Expr → List Given → Term → Option Action
-assigned env place v gs (a_place x of bounded lends makes) = if is_object of then default_written env place (read_of makes x) of v else Some (place_assigned x v)
-assigned env place v gs (a_routine space number p) = property_assigned env None place space gs v number p
-assigned env place v gs (a_method base space number p) = property_assigned env (Some base) place space gs v number p
-assigned env place v gs (a_host_member e m) = member_written env place e m gs v
-assigned env place v gs (a_value node of) = value_written env place v node of
-assigned env place v gs err_object = Some (broken_target 27 place v no_exprs)
-assigned env place v gs other = None
-
--- a property, and a member of an object of the host, take their arguments with the value
-abbrev pub takes_value : Env → Term → Bool
-takes_value env (a_routine space number p) = is_some (writer env.scope space p)
-takes_value env (a_method base space number p) = is_some (writer env.scope space p)
-takes_value env (a_host_member e m) = true
-takes_value env t = false
-
--- what an assignment with brackets at the end of its target is to, before their arguments
-abbrev pub target_before : Env → Expr → Term
-target_before env base = item_of env (place_told base) (callee env base (term_of env base))
-
--- S27: a Sub, and a ParamArray by its name
-abbrev pub is_sub : Term → Bool
-is_sub (a_routine space number p) = at p.kind
-  where
-    at : ProcedureWords → Bool
-    at (words.Sub token) = true
-    at kind = false
-is_sub t = false
-
-abbrev pub is_param_array : Env → Expr → Bool
-is_param_array env (name x) = at (declares plainly env.scope x)
-  where
-    of_own : Own → Bool
-    of_own (a_parameter p) = is_some p.param_array_word
-    of_own own = false
-
-    at : Option Meant → Bool
-    at (Some (of_procedure number l)) = of_own l.own
-    at meant = false
-is_param_array env e = false
-
-abbrev pub target_of_call : Env → Expr → Term
-target_of_call env (index base left args right) = callee env base (term_of env base)
-target_of_call env e = term_of env e
-
-abbrev pub is_no_target : Env → Expr → Bool
-is_no_target env e = is_sub (target_of_call env e) || is_param_array env e
-
--- an object of a class, by its class
-abbrev pub class_of_term : Term → Option ℕ
-class_of_term (a_place x of bounded lends makes) = class_in of
-class_of_term (a_value node of) = class_in of
-class_of_term t = None
-
--- what breaks a rule with its object and its arguments
-abbrev pub broken_led : Env → (rule : ℕ) → Place → List Given → (object v : bound.Expr) → Option Action
-broken_led env rule place gs object v = option_map (λ es. broken_target rule place v (also object es)) (variant_arguments env gs)
-
--- what arguments behind an object of a class lead to takes a value
-abbrev pub element_assigned : Term → bound.Expr → Option Action
-element_assigned (a_place x of bounded lends makes) v = Some (place_assigned x v)
-element_assigned (a_value (late_item e es) of) v = Some (to.assign_element (value_place e) es v)
-element_assigned t v = None
-
-abbrev pub led_assigned : Env → Known → Place → Term → List Given → bound.Expr → Option Action
-led_assigned env (known of) place t gs v = element_assigned (indexed env place t gs) v
-led_assigned env (breaks rule) place t gs v = option_and_then (λ object. broken_led env rule place gs object v) (given_as env t place)
-led_assigned env not_said place t gs v = None
-
-abbrev pub index_assigned : Env → Place → Term → List Given → bound.Expr → Option Action
-index_assigned env place t gs v = at (class_of_term t)
-  where
-    at : Option ℕ → Option Action
-    at None = assigned env place v [] (indexed env place t gs)
-    at (Some number) = led_assigned env (class_let (declared_in env.scope) number gs) place t gs v
-
-abbrev pub written_to : Env → Expr → bound.Expr → Option Action
-written_to env (index base left args right) v =
-    let t = target_before env base in
-    if takes_value env t then assigned env (place_told base) v (givens env args) t
-    else index_assigned env (place_told base) t (givens env args) v
-written_to env e v = assigned env (place_told e) v [] (term_of env e)
-
-abbrev pub assigned_to : Env → Expr → bound.Expr → Option Action
-assigned_to env e v = if is_no_target env e then Some (broken_target 27 (place_told e) v no_exprs) else written_to env e v
-
--- what the value of an assignment is given to
-abbrev pub target_term : Env → Expr → Term
-target_term env (index base left args right) =
-    let t = target_before env base in
-    if takes_value env t then t else indexed env (place_told base) t (givens env args)
-target_term env e = term_of env e
-
--- S27 and S30: a value of a Type, and an array, that the target doesn't take
-abbrev pub given_to_term : Term → Place → bound.Expr → bound.Expr
-given_to_term (a_place x of bounded lends makes) place v = given_to of bounded place v
-given_to_term (a_host_member e m) place v = given_to type.variant false place v
-given_to_term t place v = v
-
--- what arguments index as the run says: a Variant, and what may be an object of a class
-abbrev pub is_indexed_late : Env → Place → Term → Bool
-is_indexed_late env place (a_place x of bounded lends makes) = is_variant of || (is_of_class of || is_found_late env (expression_of (read_of makes x) place of))
-is_indexed_late env place (a_value node of) = is_variant of || (is_of_class of || is_found_late env (expression_of node place of))
-is_indexed_late env place t = false
-
--- the value of an assignment: where the target takes it with arguments, and for what arguments index in the run, an object
--- comes as it is
-abbrev pub is_given_with : Env → Expr → Bool
-is_given_with env (index base left args right) = takes_value env (target_before env base) || is_indexed_late env (place_told base) (target_before env base)
-is_given_with env e = takes_value env (term_of env e)
-
-abbrev pub value_for : Env → Expr → Expr → Option bound.Expr
-value_for env x e = if is_given_with env x then bound_as_given env e else bound_operand env e
-
-abbrev pub value_given : Env → Expr → Expr → Option bound.Expr
-value_given env x e = option_map (given_to_term (target_term env x) (place_told e)) (value_for env x e)
-
--- S28: Set is of what may be an object, at its word
-abbrev pub no_reference : (set_word : Place) → Exprs → Action
-no_reference set_word es = to.evaluate (broken_rule 28 set_word es)
-
-abbrev pub may_refer : Declared → Bool
-may_refer of = is_object of || is_variant of
-
--- S27: Set to what can't be assigned to; what breaks a rule by itself breaks no other one
-abbrev pub set_value : (set_word place : Place) → Node → Declared → bound.Expr → Option Action
-set_value set_word place (marked broken es) of v = Some (to.set_member (expression_of (marked broken es) set_word of) v)
-set_value set_word place (late_item e es) of v = if is_of_class (bound.operand_type e) then None else Some (to.set_element (value_place e) es v)
-set_value set_word place node of v =
-    if not (is_unassignable node) then None
-    else if may_refer of then Some (not_assignable place v node of)
-    else Some (no_reference set_word (also v (also (expression_of node place of) no_exprs)))
-
--- a place that is given a reference
-abbrev pub place_set : Lvalue → bound.Expr → Action
-place_set (element_along x es) v = to.set_element x es v
-place_set x v = to.set x v
-
--- Set: a variable of an object type, or a Variant, is given a reference; of a member that is found in the run the run
--- decides ([MS-VBAL] 5.4.3.9)
-abbrev pub set_to : (set_word place : Place) → Term → bound.Expr → Option Action
-set_to set_word place (a_place x of bounded lends makes) v =
-    if may_refer of then Some (place_set x v) else Some (no_reference set_word (also v (also (expression_of (load x) set_word of) no_exprs)))
-set_to set_word place (a_host_member e m) v = if is_some m.greatest then None else Some (to.set_member e v)
-set_to set_word place (a_value node of) v = set_value set_word place node of v
-set_to set_word place other v = None
-
--- the target of a Set that is no Set of a property: of a member with arguments the member itself, since none that takes Set
--- is found
-abbrev pub set_target : Env → Expr → Term
-set_target env (index base left args right) = at (target_before env base)
-  where
-    at : Term → Term
-    at (a_host_member e m) = if is_some m.greatest then indexed env (place_told base) (a_host_member e m) (givens env args) else a_host_member e m
-    at (a_routine space number p) = if is_property p.kind then no_term else indexed env (place_told base) (a_routine space number p) (givens env args)
-    at (a_method object space number p) = if is_property p.kind then no_term else indexed env (place_told base) (a_method object space number p) (givens env args)
-    at t = indexed env (place_told base) t (givens env args)
-set_target env e = at (term_of env e)
-  where
-    at : Term → Term
-    at (a_routine space number p) = if is_property p.kind then no_term else indexed env (place_told e) (a_routine space number p) []
-    at (a_method object space number p) = if is_property p.kind then no_term else indexed env (place_told e) (a_method object space number p) []
-    at t = t
-
--- a property is given the object by its Set, and a member that the run finds
-abbrev pub set_by : Env → Place → List Given → Term → bound.Expr → Option Action
-set_by env place gs (a_routine space number p) v = option_and_then (given_behind (λ of. true) env None place space gs v) (setter env.scope space p)
-set_by env place gs (a_method object space number p) v = option_and_then (given_behind (λ of. true) env (Some object) place space gs v) (setter env.scope space p)
-set_by env place gs (a_host_member e m) v = if m.late then from_two (λ by given. to.set_late e m.name by given v) (given_by_name gs) (late_arguments env gs) else None
-set_by env place gs t v = None
-
--- what arguments behind an object of a class lead to is given an object
-abbrev pub element_given : Term → bound.Expr → Option Action
-element_given (a_place x of bounded lends makes) v = Some (place_set x v)
-element_given (a_value (late_item e es) of) v = Some (to.set_element (value_place e) es v)
-element_given t v = None
-
-abbrev pub led_set : Env → Known → Place → Term → List Given → bound.Expr → Option Action
-led_set env (known of) place t gs v = element_given (indexed env place t gs) v
-led_set env (breaks rule) place t gs v = option_and_then (λ object. broken_led env rule place gs object v) (given_as env t place)
-led_set env not_said place t gs v = None
-
-abbrev pub index_set : Env → (set_word : Place) → Expr → Expr → List Given → bound.Expr → Option Action
-index_set env set_word base e gs v = at (class_of_term (target_before env base))
-  where
-    at : Option ℕ → Option Action
-    at None = or_else (set_by env (place_told base) gs (target_before env base) v) (set_to set_word (place_told base) (set_target env e) v)
-    at (Some number) = led_set env (class_set (declared_in env.scope) number gs) (place_told base) (target_before env base) gs v
-
-abbrev pub object_set : Env → (set_word : Place) → Expr → bound.Expr → Option Action
-object_set env set_word (index base left args right) v = index_set env set_word base (index base left args right) (givens env args) v
-object_set env set_word e v = or_else (set_by env (place_told e) [] (term_of env e) v) (set_to set_word (place_told e) (set_target env e) v)
-
--- a value that can't be an object breaks S28, whatever its target is
-abbrev pub set_given : Env → (set_word : Place) → Expr → bound.Expr → Option Action
-set_given env set_word x v =
-    if not (may_refer (bound.operand_type v)) then Some (no_reference set_word (also v no_exprs))
-    else if is_sub (target_of_call env x) then Some (broken_target 27 (place_told x) v no_exprs)
-    else object_set env set_word x v
-
 -- RaiseEvent: an event of the own class, by its number, with what its parameters take; S25 where they don't take it
 abbrev pub event_arguments : Env → Option EventArguments → List Given
 event_arguments env None = []
@@ -524,7 +147,7 @@ redim_type env None = None
 redim_type env (Some c) = Some (written_type (known_length env.scope) env.scope c.declared_type)
 
 abbrev pub place_in : Term → Option Lvalue
-place_in (a_place x of bounded lends makes) = Some x
+place_in (a_place x of bounds lends makes) = Some x
 place_in (a_host_member e m) = if m.late then Some (late_field e m.name) else None
 place_in other = None
 
@@ -535,6 +158,11 @@ may_resize (a_place x (type.array_of of) bounded lends makes) (Some written) = i
 may_resize (a_place x type.variant bounded lends makes) written = true
 may_resize (a_host_member e m) written = m.late
 may_resize t written = false
+
+-- what is no place is a value that no variable has
+abbrev pub resized_place : Place → Term → Lvalue
+resized_place place (a_value node of) = value_place (expression_of node place of)
+resized_place place t = unwrap_or (place_in t) (value_place (broken_rule 27 place no_exprs))
 
 -- the last bound stands for what breaks a rule
 abbrev pub last_broken : Place → Exprs → Exprs
@@ -548,7 +176,7 @@ resized_by env a es = if may_resize (term_of env a.place) (redim_type env a.type
 abbrev pub redim_arrays : Env → List ReDimArray → Option Resizes
 redim_arrays env [] = Some no_resizes
 redim_arrays env (a ∷ others) =
-    from_three (λ x es rs. resize x (resized_by env a es) (redim_type env a.type_clause) rs) (place_in (term_of env a.place)) (redim_bounds env (all_of a.dims)) (redim_arrays env others)
+    from_two (λ es rs. resize (resized_place (place_told a.place) (term_of env a.place)) (resized_by env a es) (redim_type env a.type_clause) rs) (redim_bounds env (all_of a.dims)) (redim_arrays env others)
 
 abbrev pub erased_arrays : Env → List Expr → Option Arrays
 erased_arrays env [] = Some no_arrays
@@ -733,8 +361,8 @@ is_of_object (value_place e) = true
 
 -- an object is kept as a value, and so is what another object has; any other place as one
 abbrev pub with_action : Term → Env → Place → Option Action
-with_action (a_place x of bounded lends makes) env place =
-    if is_object of || (is_variant of || is_of_object x) then option_map to.with_value (given_as env (a_place x of bounded lends makes) place) else Some (to.with_place x)
+with_action (a_place x of bounds lends makes) env place =
+    if is_object of || (is_variant of || is_of_object x) then option_map to.with_value (given_as env (a_place x of bounds lends makes) place) else Some (to.with_place x)
 with_action t env place = option_map to.with_value (given_as env t place)
 
 abbrev pub block_action : Around → Standing → BlockLine → Option Action

@@ -38,9 +38,9 @@ pub record HostMember : Type 0 where
   pub late : Bool
 
 pub data Term : Type 0 where
-  -- a place, whether it is an array that is declared with bounds, whether it is lent to a ByRef parameter, and whether an
-  -- object is made there where it is read, as of a variable that is declared As New
-  a_place : Lvalue → Declared → (bounded lends makes : Bool) → Term
+  -- a place, with how many bounds it is declared as an array (0 without any), whether it is lent to a ByRef parameter, and
+  -- whether an object is made there, or in an element of it, where that is read, as of a variable that is declared As New
+  a_place : Lvalue → Declared → (bounds : ℕ) → (lends makes : Bool) → Term
   a_value : Node → Declared → Term
   -- a procedure or a property of a module, by an entry of it
   a_routine : Space → ℕ → Written → Term
@@ -74,6 +74,13 @@ broken_rule rule place es = expression_of (marked (record { rule = rule; place =
 abbrev pub broken_value : (rule : ℕ) → Place → Exprs → Term
 broken_value rule place es = a_value (marked (record { rule = rule; place = place }) es) type.variant
 
+-- the same of a call of what has a declared type. An object is none: it would give way to its default member's value
+abbrev pub told_type : Declared → Declared
+told_type of = if is_object of then type.variant else of
+
+abbrev pub broken_call : (rule : ℕ) → Place → Declared → Exprs → Term
+broken_call rule place of es = a_value (marked (record { rule = rule; place = place }) es) (told_type of)
+
 -- a value of an object type is none: it is taken as a reference, or gives way to its default member's value
 abbrev pub typed_value : Node → Place → Declared → Option bound.Expr
 typed_value node place of = if is_object of then None else Some (expression_of node place of)
@@ -90,19 +97,11 @@ no_names = record { before = 0; names = [] }
 abbrev pub member_read : bound.Expr → HostMember → Node
 member_read e m = if m.late then late_member e m.name no_names none_given else host_member e m.name no_exprs
 
--- a term that is a value, as one
-abbrev pub value_in : (Node → Place → Declared → Option bound.Expr) → Term → Place → Option bound.Expr
-value_in typed (a_value node of) place = typed node place of
-value_in typed other place = None
-
--- a value, where an argument that isn't written is Missing; a procedure is called, of an object where there is one
-abbrev pub value_with : (call_of : Option bound.Expr → Space → ℕ → Written → Term) → Term → Place → Option bound.Expr
-value_with call_of (a_place x of bounded lends makes) place = typed_value (read_of makes x) place of
-value_with call_of (a_value node of) place = typed_value node place of
-value_with call_of (a_host_member e m) place = if m.least == 0 then typed_value (member_read e m) place m.of else None
-value_with call_of (a_routine space number p) place = value_in typed_value (call_of None space number p) place
-value_with call_of (a_method base space number p) place = value_in typed_value (call_of (Some base) space number p) place
-value_with call_of other place = None
+-- what a place has, and a value, as what its type says
+abbrev pub read_as : (Node → Place → Declared → Option bound.Expr) → Term → Place → Option bound.Expr
+read_as typed (a_place x of bounds lends makes) place = typed (read_of makes x) place of
+read_as typed (a_value node of) place = typed node place of
+read_as typed other place = None
 
 -- ---- arguments ([MS-VBAL] 5.6.13.1)
 
@@ -170,9 +169,9 @@ abbrev pub of_other_type : Lvalue → (of parameter : Declared) → Place → bo
 of_other_type x of parameter place = broken_rule (other_rule parameter) place (also (expression_of (load x) place of) no_exprs)
 
 abbrev pub by_reference : (Declared → Term → Place → Option bound.Expr) → Parameter → Term → Place → bound.Args → Option bound.Args
-by_reference value p (a_place x of bounded true makes) place rest =
+by_reference value p (a_place x of bounds true makes) place rest =
     if is_lent_to of p.of then Some (bound.by_place x rest)
-    else if is_copied_to x of p.of then by_copy value p (a_place x of bounded true makes) place rest
+    else if is_copied_to x of p.of then by_copy value p (a_place x of bounds true makes) place rest
     else Some (bound.by_copy (of_other_type x of p.of place) p.of rest)
 by_reference value p t place rest = by_copy value p t place rest
 

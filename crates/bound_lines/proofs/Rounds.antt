@@ -1,9 +1,11 @@
 -- The With blocks round a part.
-use Rattle.std.proofs.Common.{◌≡◌, ◌≤◌, ℕ, ◌-◌, length, List, [], ◌∷◌, take, drop, get_or, refl, ◌∙◌, sym, ap, subst, arith}
+use Rattle.std.proofs.Common.{◌≡◌, ◌≤◌, ℕ, ◌-◌, Bool, true, false, length, List, [], ◌∷◌, take, drop, get_or, refl, ◌∙◌, sym, ap, subst, arith}
 use Rattle.std.proofs.lemmas.List.{take_rest}
 use Rattle.std.specs.Prelude.{map, Option, Some, None}
 use mathlib.Core.List.{reverse_aux}
+use Rattle.vba_base.specs.declared.place.Place.{Place}
 use Rattle.vba_expression.specs.Tree.{Expr}
+use Rattle.bound_project.specs.Expressions.{no_exprs}
 use Rattle.constant_values.specs.declared_names.specs.module_parts.specs.View.{parts_view}
 use Rattle.constant_values.specs.declared_names.specs.module_parts.specs.declared.part.Part.{Part}
 use Rattle.constant_values.specs.declared_names.specs.Range.{range_items}
@@ -12,9 +14,10 @@ use Rattle.constant_values.specs.declared_names.specs.binder.specs.Declarations.
 use Rattle.constant_values.specs.declared_names.specs.binder.specs.Scopes.{Scope}
 use Rattle.constant_values.specs.declared_names.specs.binder.specs.Numbering as numbering
 use Rattle.constant_values.specs.declared_names.specs.binder.specs.Numbering.{standings_in, body_count}
-use Rattle.bound_terms.specs.bound_accesses.specs.bound_names.specs.bound_members.specs.bound_calls.specs.bound_forms.specs.Terms.{Within, Env, Term, a_routine}
+use Rattle.bound_terms.specs.bound_accesses.specs.bound_names.specs.bound_members.specs.bound_calls.specs.bound_forms.specs.Terms.{Within, Env, Term, a_function, a_method, a_routine}
+use Rattle.bound_terms.specs.bound_accesses.specs.bound_names.specs.bound_members.specs.bound_calls.specs.bound_forms.specs.Operands.{alone, function_takes, function_value, place_told}
 use Rattle.bound_terms.specs.bound_accesses.specs.bound_names.specs.bound_members.specs.bound_calls.specs.bound_forms.specs.ExpressionsBound.{term_of}
-use Rattle.bound_terms.specs.bound_accesses.specs.bound_names.specs.bound_members.specs.bound_calls.specs.bound_forms.specs.StatementsBound.{settled, keeps, with_object, with_or, within}
+use Rattle.bound_terms.specs.bound_accesses.specs.bound_names.specs.bound_members.specs.bound_calls.specs.bound_forms.specs.StatementsBound.{keeps, with_object, with_or, within}
 use Rattle.statement_nodes.specs.statement_numbers.specs.declared.opened.Opened.{Opened}
 use Rattle.statement_nodes.specs.statement_numbers.specs.View.{part_at, opened_view, stack_view}
 use Rattle.bound_terms.specs.bound_accesses.specs.bound_names.specs.declared.env.Env.{Env as EnvHere}
@@ -24,15 +27,25 @@ use Rattle.bound_lines.specs.Round.{around_view, within_blocks, Inside}
 
 -- ---- With blocks
 
--- a call without arguments stands in no With block
-settled_same : (env : Env) (w : Option Within) (t : Term) → settled (record env { within = w }) t ≡ settled env t
-settled_same env w (a_routine space number p) = refl
-settled_same env w t = refl
+-- what holds of both holds of any
+for_any : (P : Bool → Type 0) → P true → P false → (b : Bool) → P b
+for_any P yes_so no_so true = yes_so
+for_any P yes_so no_so false = no_so
+
+-- what stands without arguments stands in no With block
+alone_same : (env : Env) (w : Option Within) (place : Place) (t : Term) → alone (record env { within = w }) place t ≡ alone env place t
+alone_same env w place (a_routine space number p) = refl
+alone_same env w place (a_method base space number p) = refl
+alone_same env w place (a_function f text_form base) =
+    let P : Bool → Type 0 = λ (takes : Bool).
+    function_value (record env { within = w }) place f text_form base takes no_exprs ≡ function_value env place f text_form base takes no_exprs in
+    for_any P refl refl (function_takes f [])
+alone_same env w place t = refl
 
 -- what a block keeps depends on the one round it alone
 entered : (o : Option Expr) (env : Env) (w outside : Option Within) (n : ℕ) → with_or o (record env { within = w }) n outside ≡ with_or o env n outside
 entered None env w outside n = refl
-entered (Some e) env w outside n = ap (keeps n) (settled_same env w (term_of (record env { within = outside }) e))
+entered (Some e) env w outside n = ap (keeps n) (alone_same env w (place_told e) (term_of (record env { within = outside }) e))
 
 -- a block that is no With changes nothing
 pub no_with : (o : Option Expr) (env : Env) (n : ℕ) → None ≡ o → env ≡ record env { within = with_or o env n env.within }
@@ -40,12 +53,12 @@ no_with None env n is = refl
 no_with (Some e) env n is = cc
 
 -- in a With block stands what it keeps
-pub with_kept : (o : Option Expr) (env inner : Env) (n : ℕ) (e : Expr) (w : Option Within) → Some e ≡ o → w ≡ keeps n (settled env (term_of env e))
+pub with_kept : (o : Option Expr) (env inner : Env) (n : ℕ) (e : Expr) (w : Option Within) → Some e ≡ o → w ≡ keeps n (alone env (place_told e) (term_of env e))
     → inner ≡ record env { within = w } → inner ≡ record env { within = with_or o env n env.within }
 with_kept None env inner n e w is kept inside = cc
 with_kept (Some x) env inner n e w is kept inside =
     let same : e ≡ x = cc in
-    inside ∙ ap (λ (v : Option Within). record env { within = v }) (kept ∙ ap (λ (y : Expr). keeps n (settled env (term_of env y))) same)
+    inside ∙ ap (λ (v : Option Within). record env { within = v }) (kept ∙ ap (λ (y : Expr). keeps n (alone env (place_told y) (term_of env y))) same)
 
 within_onto : (env : Env) (body : List Part) (around : List numbering.Opened) (os : List Opened)
     → within_blocks env body (within env around) os ≡ within env (reverse_aux (map (opened_view body) os) around)

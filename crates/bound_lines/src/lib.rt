@@ -12,6 +12,7 @@ mod places;
 mod plain_actions;
 mod prints;
 mod redims;
+mod resized;
 mod single_line_ifs;
 mod statements;
 mod values;

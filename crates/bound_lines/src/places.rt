@@ -1,35 +1,34 @@
-//! Expressions that stand for places: what ReDim and Erase name, and what With keeps.
+//! Expressions that stand for places: what Erase names, and what With keeps.
 
-ghost use Rattle.std.specs.Prelude.{◌≡◌, ◌&&◌, ◌||◌, [], not, IfOk, OnOk, option_map};
+ghost use Rattle.std.specs.Prelude.{◌≡◌, ◌&&◌, ◌||◌, [], not, IfOk, IfSome, OnOk, option_map};
 ghost use Rattle.vba_expression.specs.View.{view as expression_view};
 ghost use Rattle.bound_project.specs.DraftView.{draft_view};
 ghost use Rattle.bound_project.specs.View.{declared_view};
-ghost use Rattle.bound_terms.specs.bound_accesses.specs.bound_names.specs.bound_members.specs.bound_calls.specs.bound_forms.specs.ExpressionsBound.{term_of, place_told};
+ghost use Rattle.bound_terms.specs.bound_accesses.specs.bound_names.specs.bound_members.specs.bound_calls.specs.bound_forms.specs.Operands.{alone, place_told};
+ghost use Rattle.bound_terms.specs.bound_accesses.specs.bound_names.specs.bound_members.specs.bound_calls.specs.bound_forms.specs.ExpressionsBound.{term_of};
 ghost use Rattle.bound_terms.specs.bound_accesses.specs.bound_names.specs.bound_members.specs.bound_calls.specs.bound_forms.specs.StatementsBound as plain;
 ghost use Rattle.statement_nodes.specs.Pushed.{ActionStands, PlacePushed};
-ghost use Rattle.statement_nodes.specs.Resizing.{ArrayTold};
 ghost use Rattle.bound_lines.specs.Kept.{Keeps, array_ending};
 ghost use Rattle.statement_terms.specs.Kept.{is_of_object, lends};
 ghost use Rattle.statement_terms.specs.Terms.{may_be_object};
 ghost use Rattle.bound_terms.specs.bound_accesses.specs.bound_names.specs.View.{EnvStands, env_view, within_view};
 
-use crate::values::Told;
 use bound_project::{ActionKind, DeclaredType, Draft, ElementType, NodeKind};
 use bound_terms::bound_accesses::bound_names::bound_members::bound_calls::bound_declarations::NotYet;
 use bound_terms::bound_accesses::bound_names::bound_members::bound_calls::{
-    Ending, Routine, Term, push_given, push_node, routine_ending,
+    Ending, Term, alone, push_given, push_node,
 };
 use bound_terms::bound_accesses::bound_names::{Env, Within};
 use bound_terms::tree_of;
 use statement_terms::{may_be_object, place_ending, with_place};
 use std::alloc::Global;
-use vba_base::{OrMemory, Place};
+use vba_base::OrMemory;
 use vba_expression::Expression;
 
 /// The place that a term is where ReDim or Erase names it, but for its last node: that of a variable of an object that the
 /// run finds, too.
 #[tactic(auto, using(crate::proofs::Placing::late_told, crate::proofs::Placing::early_told))]
-fn array_ending<'a>(term: Term<'a>) -> Option<Ending>
+pub(crate) fn array_ending<'a>(term: Term<'a>) -> Option<Ending>
     ensures { result ≡ array_ending term.entry }
 {
     match term {
@@ -47,29 +46,7 @@ fn array_ending<'a>(term: Term<'a>) -> Option<Ending>
     }
 }
 
-/// Pushes the place that an expression is; answers its type, and where it is told.
-pub(crate) fn bind_array<'a>(
-    alloc: Global,
-    draft: &mut Draft,
-    env: Env<'a>,
-    expression: &'a Expression,
-) -> Result<Told, OrMemory<NotYet>>
-    requires { EnvStands env }
-    ensures { IfOk result (λ told. ArrayTold (env_view env.entry) (expression_view expression.now) told.of told.place (draft_view draft.old) (draft_view draft.new)) }
-{
-    let tree = tree_of(alloc, draft, env, expression)?;
-    let Some(at) = array_ending(tree.term) else {
-        return Err(OrMemory::Fault(NotYet));
-    };
-    push_node(draft, at.kind, at.of, tree.place)?;
-    Ok(Told {
-        of: at.of,
-        place: tree.place,
-    })
-}
-
 /// Pushes the place that an expression is.
-#[tactic(auto, using(crate::proofs::Placing::array_place))]
 pub fn bind_place<'a>(
     alloc: Global,
     draft: &mut Draft,
@@ -79,7 +56,11 @@ pub fn bind_place<'a>(
     requires { EnvStands env }
     ensures { OnOk result (PlacePushed (plain.place_in (term_of (env_view env.entry) (expression_view expression.now))) (draft_view draft.old) (draft_view draft.new)) }
 {
-    bind_array(alloc, draft, env, expression)?;
+    let tree = tree_of(alloc, draft, env, expression)?;
+    let Some(at) = array_ending(tree.term) else {
+        return Err(OrMemory::Fault(NotYet));
+    };
+    push_node(draft, at.kind, at.of, tree.place)?;
     Ok(())
 }
 
@@ -157,35 +138,14 @@ fn kept_place(header: u32, of: DeclaredType, lends: bool) -> Within
     Within { header, of, lends }
 }
 
-/// What the With block of this number keeps of a procedure that is called.
-fn kept_call<'a>(
-    alloc: Global,
-    draft: &mut Draft,
-    header: u32,
-    routine: Routine<'a>,
-) -> Result<Within, OrMemory<NotYet>>
-    ensures { IfOk result (λ kept. Keeps header (Term.Routine routine.entry) (draft_view draft.old) kept) }
-{
-    let ending = routine_ending(alloc, draft, routine)?;
-    Ok(kept_place(header, ending.of, false))
-}
-
-/// What the With block of this number keeps of a term.
-fn kept_term<'a>(
-    alloc: Global,
-    draft: &mut Draft,
-    header: u32,
-    term: Term<'a>,
-) -> Result<Within, OrMemory<NotYet>>
-    ensures { IfOk result (λ kept. Keeps header term.entry (draft_view draft.old) kept) }
+/// What the With block of this number keeps of a term that stands alone; none where that isn't bound.
+fn kept_term<'a>(header: u32, term: Term<'a>) -> Option<Within>
+    ensures { IfSome result (λ kept. Keeps header term.entry kept) }
 {
     match term {
-        Term::Place { of, lends, .. } => Ok(kept_place(header, of, lends)),
-        Term::Value(ending) => Ok(kept_place(header, ending.of, false)),
-        Term::Routine(routine) => kept_call(alloc, draft, header, routine),
-        Term::HostMember(member) => Ok(kept_place(header, member.of, false)),
-        Term::SheetMember(member) => Ok(kept_place(header, member.of, false)),
-        _ => Err(OrMemory::Fault(NotYet)),
+        Term::Place { of, lends, .. } => Some(kept_place(header, of, lends)),
+        Term::Value(ending) => Some(kept_place(header, ending.of, false)),
+        _ => None,
     }
 }
 
@@ -199,11 +159,14 @@ fn kept_in<'a>(
 ) -> Result<Option<Within>, OrMemory<NotYet>>
     requires { EnvStands env }
     ensures { IfOk result (λ kept. option_map within_view kept
-        ≡ plain.keeps header (plain.settled (env_view env.entry) (term_of (env_view env.entry) (expression_view expression.now)))) }
+        ≡ plain.keeps header (alone (env_view env.entry) (place_told (expression_view expression.now)) (term_of (env_view env.entry) (expression_view expression.now)))) }
 {
     let tree = tree_of(alloc, draft, env, expression)?;
-    let kept = kept_term(alloc, draft, header, tree.term)?;
-    Ok(Some(kept))
+    let standing = alone(alloc, draft, tree.term, tree.place)?;
+    match kept_term(header, standing) {
+        Some(kept) => Ok(Some(kept)),
+        None => Err(OrMemory::Fault(NotYet)),
+    }
 }
 
 /// What the With block of this number keeps; none where that isn't bound.
@@ -215,7 +178,7 @@ pub fn kept_by<'a>(
 ) -> Result<Option<Within>, OrMemory<NotYet>>
     requires { EnvStands env }
     ensures { IfOk result (λ kept. option_map within_view kept
-        ≡ plain.keeps header (plain.settled (env_view env.entry) (term_of (env_view env.entry) (expression_view expression.now)))) }
+        ≡ plain.keeps header (alone (env_view env.entry) (place_told (expression_view expression.now)) (term_of (env_view env.entry) (expression_view expression.now)))) }
 {
     let mut draft = Draft::new(alloc);
     kept_in(alloc, &mut draft, env, header, expression)

@@ -18,7 +18,7 @@ ghost use Rattle.vba_tree.specs.Tree as tree;
 ghost use Rattle.vba_tree.specs.View.{array_view, listed_view, type_clause_view};
 
 use crate::bounds::push_bounds;
-use crate::places::bind_array;
+use crate::resized::bind_resized;
 use bound_project::{ActionKind, DeclaredType, Draft, Node, NodeKind};
 use bound_terms::bound_accesses::bound_names::Env;
 use bound_terms::bound_accesses::bound_names::bound_members::bound_calls::bound_declarations::NotYet;
@@ -69,7 +69,7 @@ fn push_array<'a>(
         (draft_view draft.old) (draft_view draft.new)) }
 {
     let of = resized_type(alloc, env, &array.type_clause)?;
-    let told = bind_array(alloc, draft, env, &array.place)?;
+    let told = bind_resized(alloc, draft, env, &array.place)?;
     let bounds = push_bounds(alloc, draft, env, &array.dims)?;
     mark_bounds(draft, bounds, told.of, of, told.place)?;
     end_array(draft, bounds, of)?;

@@ -69,13 +69,6 @@ pub(crate) fn counter_of<'a>(
     }
 }
 
-/// Something that was pushed: its type, and the place where it is told.
-#[derive(Clone, Copy)]
-pub(crate) struct Told {
-    pub of: DeclaredType,
-    pub place: Place,
-}
-
 /// Something that was pushed: its type, the place where it is told, and whether it may be an object of a class, where that is
 /// known.
 #[derive(Clone, Copy)]

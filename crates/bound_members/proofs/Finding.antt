@@ -12,8 +12,9 @@ use Rattle.bound_project.proofs.Drafts.{constant_last}
 use Rattle.bound_project.specs.View.{element_view}
 use Rattle.bound_calls.specs.bound_forms.specs.Terms.{a_host_member}
 use Rattle.bound_calls.specs.bound_forms.specs.Terms as terms
-use Rattle.bound_calls.specs.bound_forms.specs.ExpressionsBound as plain
-use Rattle.bound_calls.specs.bound_forms.specs.ExpressionsBound.{HostKind, application, workbook, sheets, sheet, area, collection, any_object, member_in, member_of_kind, unknown_member}
+use Rattle.bound_calls.specs.bound_forms.specs.Members as members_bound
+use Rattle.bound_calls.specs.bound_forms.specs.Operands.{HostKind, application, workbook, sheets, sheet, area, collection, any_object}
+use Rattle.bound_calls.specs.bound_forms.specs.Members.{member_in, member_of_kind, unknown_member}
 use Rattle.bound_calls.specs.declared.term.HostMember.{HostMember}
 use Rattle.bound_calls.specs.Steps.{AddsConstant}
 use Rattle.bound_calls.proofs.Growing.{grown_constant}
@@ -66,5 +67,5 @@ finds_late fold d e number a =
       grown = grown_constant d (text fold);
       pieces = refl;
       named = omega (arith, a.number_is, length-append d.tables.constants (text fold ∷ []));
-      is = ap (λ (n : List ℕ). plain.found_member true n) (ap name_of (constant_last d.tables (text fold) number a.number_is));
+      is = ap (λ (n : List ℕ). members_bound.found_member true n) (ap name_of (constant_last d.tables (text fold) number a.number_is));
     })

@@ -7,7 +7,7 @@ use Rattle.bound_project.specs.declared.node.NodeKind.TheVariants as node
 use Rattle.bound_project.specs.Expressions as bound
 use Rattle.bound_project.specs.Pieces.{expr_of, put_kind}
 use Rattle.bound_project.specs.View.{declared_view}
-use Rattle.bound_calls.specs.bound_forms.specs.ExpressionsBound.{host_kind, kind_by_type, kind_of_object}
+use Rattle.bound_calls.specs.bound_forms.specs.Operands.{host_kind, kind_by_type, kind_of_object}
 use Rattle.bound_calls.specs.declared.term.Ending.{Ending}
 use Rattle.bound_calls.proofs.LastNodes.{any_node}
 use Rattle.bound_members.specs.declared.kinds.HostKind.{HostKind}

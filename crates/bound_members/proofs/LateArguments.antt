@@ -14,7 +14,8 @@ use Rattle.bound_project.proofs.Lists.{above_push}
 use Rattle.bound_project.specs.Pieces.{GivenArgument, Piece, Sought, Tables, a_given, a_late, flags, is_there, order_in, place_there, sought_in, value_there, which_there, with_given}
 use Rattle.bound_calls.specs.bound_forms.specs.Terms.{Env, Given, a_place, is_user_type}
 use Rattle.bound_calls.specs.bound_forms.specs.Terms as terms
-use Rattle.bound_calls.specs.bound_forms.specs.ExpressionsBound.{argument_of, late_argument, late_arguments, term_of, place_told}
+use Rattle.bound_calls.specs.bound_forms.specs.Operands.{argument_of, place_told}
+use Rattle.bound_calls.specs.bound_forms.specs.ExpressionsBound.{late_argument, late_arguments, term_of}
 use Rattle.bound_calls.specs.declared.term.MemberCall.{MemberCall}
 use Rattle.bound_calls.specs.Standing.{AllLate, LateIs, LateStands, argument_there, missing_given, missing_value}
 use Rattle.bound_calls.proofs.Arguing.{lends}
@@ -35,20 +36,20 @@ pub late_is_missing : (env : Env) → LateIs env missing_given (value_there miss
 late_is_missing env = record { is = λ gs. then_given (λ rest. Some (expr_given missing_value rest)) (value_there missing_value) (late_arguments env gs) (λ rest. refl) }
 
 -- a place is given, and a value
-pub place_is_given : (env : Env) (y : terms.Term) (at : Lvalue) (of : type.Declared) (bounded makes : Bool) (place : Place) (rest : bound.Given) → y ≡ a_place at of bounded true makes → is_user_type of ≡ false
+pub place_is_given : (env : Env) (y : terms.Term) (at : Lvalue) (of : type.Declared) (bounds : ℕ) (makes : Bool) (place : Place) (rest : bound.Given) → y ≡ a_place at of bounds true makes → is_user_type of ≡ false
     → late_argument env y place rest ≡ Some (place_given at rest)
-place_is_given env y at of bounded makes place rest is plain =
-    let marked : Option bound.Given = option_map (λ (e : bound.Expr). expr_given e rest) (argument_of env type.variant (a_place at of bounded true makes) place) in
+place_is_given env y at of bounds makes place rest is plain =
+    let marked : Option bound.Given = option_map (λ (e : bound.Expr). expr_given e rest) (argument_of env type.variant (a_place at of bounds true makes) place) in
     ap (λ (z : terms.Term). late_argument env z place rest) is ∙ ap (λ (b : Bool). if b then marked else Some (place_given at rest)) plain
 
-pub marked_is_given : (env : Env) (y : terms.Term) (at : Lvalue) (of : type.Declared) (bounded makes : Bool) (place : Place) (rest : bound.Given) → y ≡ a_place at of bounded true makes → is_user_type of ≡ true
+pub marked_is_given : (env : Env) (y : terms.Term) (at : Lvalue) (of : type.Declared) (bounds : ℕ) (makes : Bool) (place : Place) (rest : bound.Given) → y ≡ a_place at of bounds true makes → is_user_type of ≡ true
     → late_argument env y place rest ≡ option_map (λ (e : bound.Expr). expr_given e rest) (argument_of env type.variant y place)
-marked_is_given env y at of bounded makes place rest is user =
+marked_is_given env y at of bounds makes place rest is user =
     let marked : terms.Term → Option bound.Given = λ z. option_map (λ (e : bound.Expr). expr_given e rest) (argument_of env type.variant z place) in
-    ap (λ (z : terms.Term). late_argument env z place rest) is ∙ ap (λ (b : Bool). if b then marked (a_place at of bounded true makes) else Some (place_given at rest)) user ∙ ap marked (sym is)
+    ap (λ (z : terms.Term). late_argument env z place rest) is ∙ ap (λ (b : Bool). if b then marked (a_place at of bounds true makes) else Some (place_given at rest)) user ∙ ap marked (sym is)
 
 pub value_is_given : (env : Env) (y : terms.Term) (place : Place) (rest : bound.Given) → lends y ≡ false → late_argument env y place rest ≡ option_map (λ (e : bound.Expr). expr_given e rest) (argument_of env type.variant y place)
-value_is_given env (a_place at of bounded true makes) place rest h = let e : true ≡ false = h in absurd cc
+value_is_given env (a_place at of bounds true makes) place rest h = let e : true ≡ false = h in absurd cc
 value_is_given env y place rest h = refl
 
 pub all_late : (env : Env) (gs : List Given) (args : List GivenArgument) → AllLate env gs args → late_arguments env gs ≡ Some (given_of args)

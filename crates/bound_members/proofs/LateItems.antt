@@ -7,7 +7,8 @@ use Rattle.vba_values.specs.Types.{Declared}
 use Rattle.bound_project.specs.Expressions as bound
 use Rattle.bound_project.specs.Pieces.{Tables}
 use Rattle.bound_calls.specs.bound_forms.specs.Terms.{Env, expression_of}
-use Rattle.bound_calls.specs.bound_forms.specs.ExpressionsBound.{has_item_member, is_found_late, is_host_type, is_of_class, may_be_instance}
+use Rattle.bound_calls.specs.bound_forms.specs.Operands.{is_found_late, is_host_type, is_of_class, may_be_instance}
+use Rattle.bound_calls.specs.bound_forms.specs.Members.{has_item_member}
 use Rattle.bound_calls.specs.declared.term.Ending.{Ending}
 use Rattle.bound_calls.specs.References.{IsFoundLate}
 

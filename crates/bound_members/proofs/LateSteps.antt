@@ -21,7 +21,8 @@ use Rattle.bound_project.proofs.Drafts.{order_extends, names_named}
 use Rattle.bound_project.proofs.Lists.{late_is}
 use Rattle.bound_calls.specs.bound_forms.specs.Terms.{Env, Given, given_by_name, is_user_type}
 use Rattle.bound_calls.specs.bound_forms.specs.Terms as terms
-use Rattle.bound_calls.specs.bound_forms.specs.ExpressionsBound.{are_named_right, argument_of, early_called, givens, late_argument, late_arguments, late_called, member_called, takes_names, term_of, place_told}
+use Rattle.bound_calls.specs.bound_forms.specs.Operands.{argument_of, place_told}
+use Rattle.bound_calls.specs.bound_forms.specs.ExpressionsBound.{are_named_right, early_called, givens, late_argument, late_arguments, late_called, member_called, takes_names, term_of}
 use Rattle.bound_calls.specs.bound_declarations.specs.constant_values.specs.declared_names.specs.binder.specs.Classes.{has_class}
 use Rattle.bound_calls.specs.bound_declarations.specs.constant_values.specs.declared_names.specs.binder.specs.Options.{from_two}
 use Rattle.bound_calls.specs.declared.term.Ending.{Ending}

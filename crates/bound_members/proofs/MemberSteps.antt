@@ -32,7 +32,9 @@ use Rattle.bound_project.specs.View.{declarations_view, declared_view}
 use Rattle.bound_calls.specs.bound_forms.specs.Terms.{Env, Given, a_value, expression_of, given_rule, given_to, no_term, unless_broken}
 use Rattle.bound_calls.specs.bound_forms.specs.Terms as terms
 use Rattle.bound_calls.specs.bound_forms.specs.ClassDefaults.{declared_in}
-use Rattle.bound_calls.specs.bound_forms.specs.ExpressionsBound.{are_named_right, argument_of, callee, early_called, given_as, givens, if_there, indexed, is_any, is_called_late, item_of, late_called, member_called, named_called, takes_arguments, takes_names, term_of, term_or, wrong_term, place_told, variant_arguments}
+use Rattle.bound_calls.specs.bound_forms.specs.Operands.{argument_of, given_as, if_there, term_or, place_told}
+use Rattle.bound_calls.specs.bound_forms.specs.Members.{item_of}
+use Rattle.bound_calls.specs.bound_forms.specs.ExpressionsBound.{are_named_right, callee, early_called, givens, indexed, is_any, is_called_late, late_called, member_called, named_called, takes_arguments, takes_names, term_of, wrong_term, variant_arguments}
 use Rattle.bound_calls.specs.bound_declarations.specs.constant_values.specs.declared_names.specs.binder.specs.Options.{from_two}
 use Rattle.bound_calls.specs.declared.term.Ending.{Ending}
 use Rattle.bound_calls.specs.declared.term.HostMember.{HostMember}
@@ -47,8 +49,9 @@ use Rattle.bound_calls.specs.declared.term.Tree.{Tree}
 use Rattle.bound_calls.specs.Calls.{node_of, MarksGiven}
 use Rattle.bound_calls.specs.Indexing.{AddsArgument, AddsMissing, Closes}
 use Rattle.bound_calls.specs.References.{TakesGiven}
-use Rattle.bound_calls.specs.Standing.{AllGiven, ArgumentsStand, EndingIs, GivenIs, LookedNamed, MemberStands, NamesCame, Stands, TermStands, TreeStands, ValuesStand, AllNamed, MemberNamed, Grown, Base, looked_for, member_is, missing_given, missing_value, names_looked, names_told, plain_given}
-use Rattle.bound_calls.proofs.Growing.{grown_same, grown_pieces, grown_twice, item_named, member_grows, names_are_named, stands_grows, term_grows, told_same}
+use Rattle.bound_calls.specs.Standing.{AllGiven, ArgumentsStand, EndingIs, GivenIs, LookedNamed, MemberStands, NamesCame, Stands, TakesMember, TreeStands, ValuesStand, AllNamed, MemberNamed, Grown, Base, looked_for, member_is, missing_given, missing_value, names_looked, names_told, plain_given}
+use Rattle.bound_calls.proofs.Growing.{grown_same, grown_pieces, grown_twice, item_named, member_grows, member_same, names_are_named, stands_grows, told_same}
+use Rattle.bound_calls.proofs.Before.{indexed_before}
 use Rattle.bound_members.proofs.Listing.{all_written, none_written, one_written}
 use Rattle.bound_members.proofs.LateArguments.{late_long}
 use Rattle.bound_members.proofs.Naming.{came_given, came_named, given_listed, given_long, given_more, missing_is, named_more, names_are_taken, none_came, none_named, unnamed_more, value_is}
@@ -82,8 +85,8 @@ looks_early m d e names given h = record { grown = h.grown; pieces = h.pieces; n
 pub looks_late : (m : HostMember) (d e : Drafted) (aim : LateUse) (found : LateName) → LooksUpLate m.name d e found → LooksUp m d e (looked.Late aim found)
 looks_late m d e aim found h = record { grown = h.grown; pieces = h.pieces; named = h.named; by_name = h.by_name }
 
-abbrev pub opened_call : Place → HostMember → Looked → (has : Bool) → MemberCall
-opened_call place m l has = record { place = place; member = m; looked = l; has_class = has; count = 0; written = 0; named = 0 }
+abbrev pub opened_call : Place → HostMember → Looked → (has of_property : Bool) → MemberCall
+opened_call place m l has of_property = record { place = place; member = m; looked = l; has_class = has; of_property = of_property; count = 0; written = 0; named = 0 }
 
 none_pushed : (l : Looked) (env : Env) (t : Tables) (x : MemberCall) → x.count ≡ 0 → x.written ≡ 0 → ByItsName x.member l → (object : bound.Expr) (ps below : List Piece) → ps ≡ looked_for t x.member.name l object ∷ below
     → ArgumentsStand l env t x object [] ps below
@@ -91,35 +94,33 @@ none_pushed (looked.Early names given) env t x c w named object ps below top =
     record { made = []; values = tt; written_is = λ more. (let e : given_count (exprs_of more) ≡ x.written + given_count (exprs_of more) = omega (arith, w) in e); count_is = c; on_top = top }
 none_pushed (looked.Late aim found) env t x c w named object ps below top = record { made = []; arguments = tt; given_are = refl; name_is = named; count_is = c; on_top = top }
 
-opened : (has : Bool) (place : Place) (m : HostMember) (l : Looked) (d : Drafted) (env : Env) → has_class env.scope.spaces ≡ has → ByItsName m l → (tree : Expr) (below : List Piece) → place ≡ place_told tree
-    → TermStands env d.tables (term.HostMember m) (item_of env (place_told tree) (callee env tree (term_of env tree))) d.pieces below
-    → MemberStands env d.tables (opened_call place m l has) tree no_args (put d.tables (node_of (there_kind m.name l) place m.of) d.pieces) below
-opened has place m l d env known named tree below p k =
+opened : (has prop : Bool) (place : Place) (m : HostMember) (l : Looked) (d : Drafted) (env : Env) → has_class env.scope.spaces ≡ has → ByItsName m l → (tree : Expr) (object : bound.Expr) (below : List Piece) → place ≡ place_told tree
+    → TakesMember prop env (place_told tree) (callee env tree (term_of env tree)) (terms.a_host_member object (member_is d.tables m)) → d.pieces ≡ an_expr object ∷ below
+    → MemberStands env d.tables (opened_call place m l has prop) tree no_args (put d.tables (node_of (there_kind m.name l) place m.of) d.pieces) below
+opened has prop place m l d env known named tree object below p k top =
     let n = node_of (there_kind m.name l) place m.of in
     record {
-      object = k.object;
-      is = k.is;
+      object = object;
+      is = k;
       place_is = p;
       classes = known;
       names = none_came (names_told d.tables (names_looked l));
-      pushed = none_pushed l env d.tables (opened_call place m l has) refl refl named k.object (put d.tables n d.pieces) below
-          (ap (λ (st : List Piece). put_kind d.tables n (there_kind m.name l) st) k.on_top ∙ there_put d.tables n m.name l k.object below);
+      pushed = none_pushed l env d.tables (opened_call place m l has prop) refl refl named object (put d.tables n d.pieces) below
+          (ap (λ (st : List Piece). put_kind d.tables n (there_kind m.name l) st) top ∙ there_put d.tables n m.name l object below);
     }
 
-pub opens_member : (has : Bool) (place : Place) (m : HostMember) (l : Looked) (d n e : Drafted) → m.name < length d.tables.constants → LooksUp m d n l
-    → e ≡ record n { pieces = put n.tables (node_of (there_kind m.name l) place m.of) n.pieces } → OpensMember has place m d e (opened_call place m l has)
-opens_member has place m l d n e named told eq =
-    let c = opened_call place m l has in
-    let P : Drafted → Type 0 = λ (z : Drafted). OpensMember has place m d z c in
+pub opens_member : (has prop : Bool) (place : Place) (m : HostMember) (l : Looked) (d n e : Drafted) → m.name < length d.tables.constants → LooksUp m d n l
+    → e ≡ record n { pieces = put n.tables (node_of (there_kind m.name l) place m.of) n.pieces } → OpensMember has prop place m d e (opened_call place m l has prop)
+opens_member has prop place m l d n e named told eq =
+    let c = opened_call place m l has prop in
+    let P : Drafted → Type 0 = λ (z : Drafted). OpensMember has prop place m d z c in
     let after : Drafted = record n { pieces = put n.tables (node_of (there_kind m.name l) place m.of) n.pieces } in
     subst P (sym eq) (record {
       grown = grown_twice d n after told.grown (grown_pieces n (put n.tables (node_of (there_kind m.name l) place m.of) n.pieces));
       named = (omega (arith, named, told.grown.tables.constants_more), told.named);
-      stands = λ env known tree items is below base p k s.
-          let y = item_of env (place_told tree) (callee env tree (term_of env tree)) in
-          let A : List Piece → Type 0 = λ (ps : List Piece). TermStands env n.tables (term.HostMember m) y ps below in
-          let grown = term_grows env d.tables n.tables told.grown.tables (term.HostMember m) named y d.pieces below k in
-          (below, (opened has place m l n env known told.by_name tree below p (subst A (sym told.pieces) grown), s));
+      stands = λ env known tree items is object below base p k top s.
+          let A : terms.HostMember → Type 0 = λ (w : terms.HostMember). TakesMember prop env (place_told tree) (callee env tree (term_of env tree)) (terms.a_host_member object w) in
+          (below, (opened has prop place m l n env known told.by_name tree object below p (subst A (member_same d.tables n.tables told.grown.tables m named) k) (told.pieces ∙ top), s));
     })
 
 -- ---- one more argument
@@ -416,8 +417,15 @@ pub arguments_long : (l : Looked) (env : Env) (t : Tables) (x : MemberCall) (obj
 arguments_long (looked.Early names given) env t x object gs ps below v = omega (arith, v.count_is, given_long (argument_of env type.variant) gs v.made v.values)
 arguments_long (looked.Late aim found) env t x object gs ps below v = omega (arith, v.count_is, late_long env gs v.made v.arguments)
 
-pub ends_member : (x : MemberCall) (t : Tables) (kind : NodeKind) → ((t : Tables) → takes_arguments (member_is t x.member) x.count ≡ true) → EndsCall t x kind → EndsMember t x (term.Value (record { kind = kind; of = x.member.of }))
-ends_member x t kind takes ended = record {
+-- brackets take it of what a property gave only with arguments
+taken_before : (prop : Bool) (env : Env) (place : Place) (z y : terms.Term) (gs : List Given) (count : ℕ) → length gs ≡ count → (prop && (count == 0)) ≡ false → TakesMember prop env place z y → indexed env place (item_of env place z) gs ≡ indexed env place y gs
+taken_before false env place z y gs count long some h = ap (λ (w : terms.Term). indexed env place w gs) h
+taken_before true env place z y [] count long some h = let e : true ≡ false = ap (λ (n : ℕ). n == 0) long ∙ some in absurd cc
+taken_before true env place z y (g ∷ gs) count long some h = indexed_before env place z (g ∷ gs) ∙ ap (λ (w : terms.Term). indexed env place w (g ∷ gs)) (h g gs)
+
+pub ends_member : (x : MemberCall) (t : Tables) (kind : NodeKind) → (x.of_property && (x.count == 0)) ≡ false → ((t : Tables) → takes_arguments (member_is t x.member) x.count ≡ true) → EndsCall t x kind
+    → EndsMember t x (term.Value (record { kind = kind; of = x.member.of }))
+ends_member x t kind some takes ended = record {
   named = ended.named;
   stands = λ env e args ps below s.
       let place = place_told e in
@@ -428,7 +436,7 @@ ends_member x t kind takes ended = record {
       let found : Option bound.Node → terms.Term = λ (o : Option bound.Node). if_there (option_map (λ (made : bound.Node). a_value made m.of) o) in
       record {
         made = c.made;
-        is = ap (λ (z : terms.Term). indexed env place z gs) s.is
+        is = taken_before x.of_property env place (callee env e (term_of env e)) (terms.a_host_member s.object m) gs x.count long some s.is
             ∙ ap (λ (z : terms.Term). term_or z (wrong_term env place (terms.a_host_member s.object m) gs))
             (ap (λ (n : ℕ). if takes_arguments m n then found (member_called env s.object m gs) else no_term) long ∙ ap (λ (b : Bool). if b then found (member_called env s.object m gs) else no_term) (takes t) ∙ ap found c.is);
         ends = c.ends;

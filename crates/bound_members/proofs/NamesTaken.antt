@@ -12,7 +12,8 @@ use Rattle.vba_meaning.specs.ByName.{given_once, is_parameter, parameter_named, 
 use Rattle.vba_meaning.proofs.Named.{fits_once, given_more}
 use Rattle.bound_calls.specs.bound_declarations.specs.constant_values.specs.declared_names.specs.binder.specs.Options.{from_two}
 use Rattle.bound_calls.specs.bound_forms.specs.Terms.{Given, HostMember, all_named, by_name_from, given_by_name, has_names}
-use Rattle.bound_calls.specs.bound_forms.specs.ExpressionsBound.{has_item, is_add, is_item_name, known_parameters, member_takes, takes_arguments}
+use Rattle.bound_calls.specs.bound_forms.specs.Operands.{is_item_name}
+use Rattle.bound_calls.specs.bound_forms.specs.ExpressionsBound.{has_item, is_add, known_parameters, member_takes, takes_arguments}
 use Rattle.bound_members.specs.Shapes.{all_given, any_given, begins_plain, by_one, is_item, is_item_called, item_given, names_from, one_given, takes_named}
 use Rattle.bound_members.proofs.Naming.{by_name, names_of}
 

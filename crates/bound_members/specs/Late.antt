@@ -10,7 +10,8 @@ use Rattle.bound_project.specs.Expressions as bound
 use Rattle.bound_project.specs.Drafts.{Drafted, LateNamed}
 use Rattle.bound_project.specs.Pieces.{GivenArgument, Piece, Tables, a_given, order_in, place_there, sought_in, value_there}
 use Rattle.bound_calls.specs.bound_forms.specs.Terms.{Env, is_user_type}
-use Rattle.bound_calls.specs.bound_forms.specs.ExpressionsBound.{term_of, place_told, argument_of}
+use Rattle.bound_calls.specs.bound_forms.specs.Operands.{place_told, argument_of}
+use Rattle.bound_calls.specs.bound_forms.specs.ExpressionsBound.{term_of}
 use Rattle.bound_calls.specs.declared.term.Ending.{Ending}
 use Rattle.bound_calls.specs.declared.term.MemberCall.{MemberCall}
 use Rattle.bound_calls.specs.declared.term.Term.{Term}

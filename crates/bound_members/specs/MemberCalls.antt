@@ -14,9 +14,11 @@ use Rattle.bound_project.specs.declared.node.NodeKind.{NodeKind}
 use Rattle.bound_project.specs.declared.node.NodeKind.TheVariants as node
 use Rattle.bound_project.specs.Pieces.{Piece, Tables, an_expr, by_name_in, is_there, order_in}
 use Rattle.bound_project.specs.Drafts.{Drafted, NodeNamed}
-use Rattle.bound_calls.specs.bound_forms.specs.Terms.{Env, Given}
+use Rattle.bound_calls.specs.bound_forms.specs.Terms.{Env, Given, a_host_member}
 use Rattle.bound_calls.specs.bound_forms.specs.Terms as plain
-use Rattle.bound_calls.specs.bound_forms.specs.ExpressionsBound.{argument_of, callee, givens, indexed, item_of, member_called, takes_names, term_of, place_told}
+use Rattle.bound_calls.specs.bound_forms.specs.Operands.{argument_of, place_told}
+use Rattle.bound_calls.specs.bound_forms.specs.Members.{item_of}
+use Rattle.bound_calls.specs.bound_forms.specs.ExpressionsBound.{callee, givens, indexed, member_called, takes_names, term_of}
 use Rattle.bound_calls.specs.declared.term.HostMember.{HostMember}
 use Rattle.bound_calls.specs.declared.term.Item.{Item}
 use Rattle.bound_calls.specs.declared.term.Item.TheVariants as item
@@ -24,10 +26,9 @@ use Rattle.bound_calls.specs.declared.term.Looked.{Looked}
 use Rattle.bound_calls.specs.declared.term.Looked.TheVariants as looked
 use Rattle.bound_calls.specs.declared.term.MemberCall.{MemberCall}
 use Rattle.bound_calls.specs.declared.term.Term.{Term}
-use Rattle.bound_calls.specs.declared.term.Term.TheVariants as term
 use Rattle.bound_calls.specs.declared.term.Tree.{Tree}
 use Rattle.bound_calls.specs.References.{is_typed_kind}
-use Rattle.bound_calls.specs.Standing.{AllNamed, ItemNamed, LookedNamed, MemberNamed, MemberStands, NamesCame, Stands, TermNamed, TermStands, TreeStands, ValueEnds, Base, Grown, member_is, missing_value, names_looked, names_told}
+use Rattle.bound_calls.specs.Standing.{AllNamed, ItemNamed, LookedNamed, MemberNamed, MemberStands, NamesCame, Stands, TakesMember, TermNamed, TermStands, TreeStands, ValueEnds, Base, Grown, member_is, missing_value, names_looked, names_told}
 use Rattle.bound_calls.specs.bound_declarations.specs.constant_values.specs.declared_names.specs.binder.specs.Classes.{has_class}
 
 -- the node that looks for a member
@@ -53,12 +54,13 @@ pub record LooksUp (m : HostMember) (d e : Drafted) (l : Looked) : Type 0 where
   pub named : LookedNamed e.tables l
   pub by_name : ByItsName m l
 
--- arguments begin of a member whose object was pushed, in a project with a class or without
-pub record OpensMember (has : Bool) (place : Place) (m : HostMember) (d e : Drafted) (c : MemberCall) : Type 0 where
+-- arguments begin of a member whose object was pushed, which a property may have given, in a project with a class or
+-- without
+pub record OpensMember (has of_property : Bool) (place : Place) (m : HostMember) (d e : Drafted) (c : MemberCall) : Type 0 where
   pub grown : Grown d e
   pub named : ItemNamed e.tables (item.Member c)
-  pub stands : (env : Env) → has_class env.scope.spaces ≡ has → (tree : Expr) (items : List Item) (is : List nodes.Item) (below : List Piece) (base : Base) → place ≡ place_told tree
-      → TermStands env d.tables (term.HostMember m) (item_of env (place_told tree) (callee env tree (term_of env tree))) d.pieces below → Stands env e.tables items is below base
+  pub stands : (env : Env) → has_class env.scope.spaces ≡ has → (tree : Expr) (items : List Item) (is : List nodes.Item) (object : bound.Expr) (below : List Piece) (base : Base) → place ≡ place_told tree
+      → TakesMember of_property env (place_told tree) (callee env tree (term_of env tree)) (a_host_member object (member_is d.tables m)) → d.pieces ≡ an_expr object ∷ below → Stands env e.tables items is below base
       → Stands env e.tables (item.Member c ∷ items) (nodes.arguments no_args ∷ nodes.tree tree ∷ is) e.pieces base
 
 -- what an argument is given, with a name or without one

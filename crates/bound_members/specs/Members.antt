@@ -6,8 +6,9 @@ use Rattle.bound_project.specs.Drafts.{Drafted}
 use Rattle.bound_project.specs.View.{element_view}
 use Rattle.bound_calls.specs.bound_forms.specs.Terms.{a_host_member}
 use Rattle.bound_calls.specs.bound_forms.specs.Terms as terms
-use Rattle.bound_calls.specs.bound_forms.specs.ExpressionsBound as plain
-use Rattle.bound_calls.specs.bound_forms.specs.ExpressionsBound.{HostKind, application, workbook, sheets, sheet, area, collection, any_object, mark_members, sheets_members, sheet_members, area_members, collection_members, member_of_kind, unknown_member}
+use Rattle.bound_calls.specs.bound_forms.specs.Members as members_bound
+use Rattle.bound_calls.specs.bound_forms.specs.Operands.{HostKind, application, workbook, sheets, sheet, area, collection, any_object}
+use Rattle.bound_calls.specs.bound_forms.specs.Members.{mark_members, sheets_members, sheet_members, area_members, collection_members, member_of_kind, unknown_member}
 use Rattle.bound_calls.specs.declared.term.HostMember.{HostMember}
 use Rattle.bound_calls.specs.Standing.{Grown, member_is}
 use Rattle.bound_members.specs.declared.kinds.HostKind as declared
@@ -48,7 +49,7 @@ pub record FindsLate (fold : List ℕ) (d e : Drafted) (m : HostMember) : Type 0
   pub grown : Grown d e
   pub pieces : e.pieces ≡ d.pieces
   pub named : m.name < length e.tables.constants
-  pub is : member_is e.tables m ≡ plain.found_member true fold
+  pub is : member_is e.tables m ≡ members_bound.found_member true fold
 
 -- there is none, and nothing changes
 pub record FindsNone (k : declared.HostKind) (fold : List ℕ) (d e : Drafted) : Type 0 where

@@ -5,7 +5,8 @@ use Rattle.vba_values.specs.Types.{Declared}
 use Rattle.vba_values.specs.Types as type
 use Rattle.vba_meaning.specs.ByName.{given_once, is_parameter, parameter_named}
 use Rattle.bound_calls.specs.bound_forms.specs.Terms.{Given}
-use Rattle.bound_calls.specs.bound_forms.specs.ExpressionsBound.{is_item_name, known_parameters}
+use Rattle.bound_calls.specs.bound_forms.specs.Operands.{is_item_name}
+use Rattle.bound_calls.specs.bound_forms.specs.ExpressionsBound.{known_parameters}
 
 -- whether a parameter is given one of these arguments by its name
 abbrev pub by_one : List (List ℕ) → (number : ℕ) → Option (List ℕ) → Bool
@@ -53,5 +54,5 @@ takes_named name (Some greatest) adds gs = names_from (known_parameters name (So
 -- the rule that arguments break behind a member that takes none, by what it gives
 abbrev pub rule_behind : Declared → Option ℕ
 rule_behind type.worksheet = Some 34
-rule_behind type.object = None
+rule_behind type.object = Some 34
 rule_behind of = Some 25

@@ -1,6 +1,6 @@
 //! Members that are called: their objects are looked at, and their arguments are pushed.
 
-ghost use Rattle.std.specs.Prelude.{◌≡◌, ◌<◌, ◌&&◌, ◌||◌, length, true, IfOk, MatchBool, OnOk};
+ghost use Rattle.std.specs.Prelude.{◌≡◌, ◌==◌, ◌<◌, ◌&&◌, ◌||◌, length, true, IfOk, MatchBool, OnOk};
 ghost use Rattle.bound_project.specs.DraftView.{draft_view};
 ghost use Rattle.bound_calls.specs.declared.term.Item.TheVariants as item;
 ghost use Rattle.bound_calls.specs.declared.term.Looked.TheVariants as looked;
@@ -65,7 +65,8 @@ fn look_up<'a>(
 }
 
 /// A member of the object that was pushed, whose arguments, these, are to come: what is done with it where it is a
-/// late-bound one, in a project with a class or without.
+/// late-bound one, in a project with a class or without. The object may be what a property without parameters gave: then
+/// some arguments must come.
 pub fn open_member<'a>(
     alloc: Global,
     draft: &mut Draft,
@@ -74,9 +75,10 @@ pub fn open_member<'a>(
     shapes: &[Shape<'a>],
     aim: LateUse,
     has_class: bool,
+    of_property: bool,
 ) -> Result<MemberCall, OrMemory<NotYet>>
     requires { member.name < length (draft_view draft.old).tables.constants }
-    ensures { IfOk result (λ call. OpensMember has_class place member (draft_view draft.old) (draft_view draft.new) call) }
+    ensures { IfOk result (λ call. OpensMember has_class of_property place member (draft_view draft.old) (draft_view draft.new) call) }
 {
     let looked = look_up(alloc, draft, member, shapes, aim, has_class)?;
     let there = there_kind(member.name, looked);
@@ -86,6 +88,7 @@ pub fn open_member<'a>(
         member,
         looked,
         has_class,
+        of_property,
         count: 0,
         written: 0,
         named: 0,
@@ -315,10 +318,20 @@ pub fn member_kind(draft: &Draft, call: MemberCall) -> Result<NodeKind, OrMemory
     }
 }
 
-/// What a member gives of its arguments, where it takes so many.
+/// Did no arguments come of a member whose object a property gave? Brackets with none in them are that property's.
+fn lacks_arguments(call: MemberCall) -> bool
+    ensures { result ≡ (call.of_property && (call.count == 0)) }
+{
+    call.of_property && call.count == 0
+}
+
+/// What a member gives of its arguments, where it takes so many: some, where a property gave its object.
 pub fn close_member<'a>(draft: &Draft, call: MemberCall) -> Result<Term<'a>, OrMemory<NotYet>>
     ensures { IfOk result (λ term. EndsMember (draft_view draft.now).tables call term) }
 {
+    if lacks_arguments(call) {
+        return Err(OrMemory::Fault(NotYet));
+    }
     if !takes_arguments(call.member, call.count) {
         return Err(OrMemory::Fault(NotYet));
     }

@@ -3,7 +3,7 @@
 ghost use Rattle.std.specs.Prelude.{◌≡◌, IfSome, MatchBool, false, option_map, true};
 ghost use Rattle.bound_project.specs.DraftView.{draft_view};
 ghost use Rattle.bound_project.specs.View.{declared_view};
-ghost use Rattle.bound_calls.specs.bound_forms.specs.ExpressionsBound.{kind_by_type, kind_of_object};
+ghost use Rattle.bound_calls.specs.bound_forms.specs.Operands.{kind_by_type, kind_of_object};
 ghost use Rattle.bound_calls.specs.References.{IsFoundLate, is_typed_kind};
 ghost use Rattle.bound_members.specs.Kinds.{EndingOfKind, kind_view};
 

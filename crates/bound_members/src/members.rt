@@ -6,6 +6,7 @@ ghost use Rattle.vba_values.specs.Val.{text};
 ghost use Rattle.vba_values.specs.View.{view};
 ghost use Rattle.bound_project.specs.Pieces.{Tables};
 ghost use Rattle.bound_project.specs.View.{declared_view};
+ghost use Rattle.bound_calls.specs.bound_forms.specs.Members as members_bound;
 ghost use Rattle.bound_calls.specs.bound_forms.specs.ExpressionsBound as bound;
 ghost use Rattle.bound_members.specs.Kinds.{kind_view};
 ghost use Rattle.bound_members.specs.declared.kinds.HostKind as declared;
@@ -305,7 +306,7 @@ pub fn is_word(text: &[u16], word: &[u8]) -> bool
 }
 
 fn first_named(name: &[u16], members: Members) -> Option<Known>
-    ensures { option_map (found_member name.now) result ≡ bound.listed_member (map (λ m. entry_member (m.0.now, m.1)) members.now) name.now }
+    ensures { option_map (found_member name.now) result ≡ members_bound.listed_member (map (λ m. entry_member (m.0.now, m.1)) members.now) name.now }
 {
     for (own, known) in members {
         if is_word(name, own) {
@@ -317,7 +318,7 @@ fn first_named(name: &[u16], members: Members) -> Option<Known>
 
 /// The member with a name of a kind of objects; of an object of an unknown kind the run decides.
 fn known_member(kind: HostKind, name: &[u16]) -> Option<Known>
-    ensures { option_map (found_member name.now) result ≡ bound.member_in (kind_view kind) name.now }
+    ensures { option_map (found_member name.now) result ≡ members_bound.member_in (kind_view kind) name.now }
 {
     match kind {
         HostKind::AnyObject => Some(Known {
@@ -347,7 +348,7 @@ fn is_workbook(kind: HostKind) -> bool
 
 /// A member of which this is known, by its folded name, which becomes a constant.
 fn named_member(draft: &mut Draft, known: Known, name: Units) -> Result<HostMember, NoMemory>
-    ensures { IfOk result (λ member. (kind : declared.HostKind) → bound.member_in (kind_view kind) name ≡ Some (found_member name known)
+    ensures { IfOk result (λ member. (kind : declared.HostKind) → members_bound.member_in (kind_view kind) name ≡ Some (found_member name known)
         → FindsMember kind name (draft_view draft.old) (draft_view draft.new) member) }
 {
     let constant = constant_number(draft, text_value(name))?;

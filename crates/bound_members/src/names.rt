@@ -4,6 +4,7 @@ ghost use Rattle.std.specs.List.{list_any};
 ghost use Rattle.std.specs.Prelude.{◌≡◌, ◌+◌, ◌<◌, ◌^◌, [], IfOk, OnOk, Some, is_some, length, map};
 ghost use Rattle.bound_project.specs.DraftView.{draft_view};
 ghost use Rattle.bound_project.specs.Pieces.{by_name_in, name_in, names_in};
+ghost use Rattle.bound_calls.specs.bound_forms.specs.Operands as operands;
 ghost use Rattle.bound_calls.specs.bound_forms.specs.ExpressionsBound as bound;
 ghost use Rattle.vba_meaning.specs.ByName.{any_given, parameter_named, parameters_given};
 ghost use Rattle.bound_calls.specs.Standing.{member_is};
@@ -188,7 +189,7 @@ fn are_given(draft: &Draft, parameters: &[&[u8]], before: u32, order: &[u32]) ->
 /// Is one of these names that of the item?
 #[tactic(auto, using(std::proofs::lemmas::List::drop_more))]
 fn names_item(draft: &Draft, order: &[u32]) -> bool
-    ensures { result ≡ list_any bound.is_item_name (map (name_in (draft_view draft.now).tables) order.now) }
+    ensures { result ≡ list_any operands.is_item_name (map (name_in (draft_view draft.now).tables) order.now) }
 {
     for constant in order {
         if is_item_name(draft.name(*constant)) {

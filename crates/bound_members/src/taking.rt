@@ -152,7 +152,7 @@ fn rule_behind(of: DeclaredType) -> Option<u8>
 {
     match of {
         DeclaredType::Plain(ElementType::Worksheet) => Some(34),
-        DeclaredType::Plain(ElementType::Object) => None,
+        DeclaredType::Plain(ElementType::Object) => Some(34),
         _ => Some(25),
     }
 }

@@ -6,7 +6,8 @@ use Rattle.vba_values.specs.Types as type
 use Rattle.vba_words.specs.declared.identifier.Identifier.{Identifier}
 use Rattle.bound_project.specs.Expressions.{active_sheet, host_object}
 use Rattle.bound_members.specs.bound_calls.specs.bound_forms.specs.Terms.{a_value, err_object}
-use Rattle.bound_members.specs.bound_calls.specs.bound_forms.specs.ExpressionsBound.{host_term, sheet_term, sheets_value}
+use Rattle.bound_members.specs.bound_calls.specs.bound_forms.specs.Members.{sheets_value}
+use Rattle.bound_members.specs.bound_calls.specs.bound_forms.specs.ExpressionsBound.{host_term, sheet_term}
 use Rattle.bound_names.specs.Owned.{host_rest}
 
 abbrev pub is_named : Identifier → List ℕ → Bool

@@ -49,7 +49,7 @@ routine_zero (Some b) space number written = refl
 
 -- behind VBA nothing changes but the base of a function
 zero_same : (env : Env) (t : Tables) (x : Term) → ((f : Function) → (x ≡ term.Function f) → ⊥) → (y : terms.Term) (ps below : List Piece) → TermStands env t x y ps below → from_zero y ≡ y
-zero_same env t (term.Place kind of bounded lends makes) n y ps below h = let P : terms.Term → Type 0 = λ (z : terms.Term). from_zero z ≡ z in subst P (sym h.is) refl
+zero_same env t (term.Place kind of bounds lends makes) n y ps below h = let P : terms.Term → Type 0 = λ (z : terms.Term). from_zero z ≡ z in subst P (sym h.is) refl
 zero_same env t (term.Value e) n y ps below h = let P : terms.Term → Type 0 = λ (z : terms.Term). from_zero z ≡ z in subst P (sym h.is) refl
 zero_same env t (term.Routine r) n y ps below h =
     let P : terms.Term → Type 0 = λ (z : terms.Term). from_zero z ≡ z in subst P (sym h.routine.is) (routine_zero h.routine.base h.routine.space h.routine.number h.routine.written)

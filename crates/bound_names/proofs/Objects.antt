@@ -1,8 +1,7 @@
 -- Variables and procedures of objects: what stands behind a dot behind an object of a class, and what a name means in a class.
-use Rattle.std.proofs.Common.{◌≡◌, ℕ, zero, suc, ◌+◌, ◌==◌, Bool, true, false, ◌&&◌, List, [], ◌∷◌, ◌++◌, map, take, Option, Some, None, option_map, if◌then◌else◌, refl, sym, ap, subst, ◌∙◌, arith, eq-eqb}
-use Rattle.std.specs.Prelude.{flat_map, slice_get, option_and_then, unwrap_or}
+use Rattle.std.proofs.Common.{◌≡◌, ℕ, zero, suc, ◌+◌, ◌==◌, Bool, true, false, ◌&&◌, not, List, [], ◌∷◌, ◌++◌, map, take, Option, Some, None, option_map, if◌then◌else◌, refl, sym, ap, subst, ◌∙◌, arith, eq-eqb}
+use Rattle.std.specs.Prelude.{flat_map, length, slice_get, option_and_then, unwrap_or}
 use Rattle.std.proofs.lemmas.Bool.{ne_eqb}
-use Rattle.std.proofs.lemmas.Option.{slice_get-map}
 use Rattle.vba_base.specs.declared.place.Place.{Place}
 use Rattle.vba_words.specs.declared.identifier.Identifier.{Identifier}
 use Rattle.vba_tree.specs.Tree.{Variable}
@@ -14,7 +13,7 @@ use Rattle.bound_project.specs.Expressions.{as_new, object_field}
 use Rattle.bound_project.specs.Expressions as bound
 use Rattle.bound_project.specs.Pieces.{Piece, a_place, of_value, put, put_kind}
 use Rattle.bound_project.specs.Drafts.{Drafted}
-use Rattle.bound_project.specs.Project.{Class, Declaration}
+use Rattle.bound_project.specs.Project.{Class, Declaration, class_numbered}
 use Rattle.bound_project.specs.Project as project
 use Rattle.bound_project.specs.View.{class_view, declarations_view, declared_view}
 use Rattle.bound_members.specs.bound_calls.specs.bound_declarations.specs.constant_values.specs.declared_names.specs.binder.specs.Projects.{class_of, declarations_of}
@@ -22,7 +21,7 @@ use Rattle.bound_members.specs.bound_calls.specs.bound_declarations.specs.consta
 use Rattle.bound_members.specs.bound_calls.specs.bound_declarations.specs.constant_values.specs.declared_names.specs.binder.specs.EventTables.{class_table, declared_events}
 use Rattle.bound_members.specs.bound_calls.specs.bound_declarations.specs.constant_values.specs.declared_names.specs.binder.specs.Constants.{home}
 use Rattle.bound_members.specs.bound_calls.specs.bound_declarations.specs.constant_values.specs.declared_names.specs.binder.specs.Declarations.{Entry, a_procedure, a_variable, Written}
-use Rattle.bound_members.specs.bound_calls.specs.bound_forms.specs.ExpressionsBound.{class_member, made_place, object_term, unknown_member}
+use Rattle.bound_members.specs.bound_calls.specs.bound_forms.specs.Members.{class_member, made_place, object_term, unknown_member}
 use Rattle.bound_members.specs.bound_calls.specs.bound_declarations.specs.constant_values.specs.declared_names.specs.binder.specs.Storage.{has_bounds, declared_variable, module_declarations}
 use Rattle.bound_members.specs.bound_calls.specs.bound_declarations.specs.constant_values.specs.declared_names.specs.binder.specs.Scopes.{Scope, Space, first_at, is_same}
 use Rattle.bound_members.specs.bound_calls.specs.bound_forms.specs.Terms.{Env}
@@ -41,7 +40,7 @@ use Rattle.bound_members.specs.bound_calls.specs.Standing.{TermStands}
 use Rattle.bound_members.specs.bound_calls.proofs.Growing.{grown_same, grown_pieces}
 use Rattle.bound_names.specs.declared.names.Shape.{Shape}
 use Rattle.bound_names.specs.Callee.{MakesRoutine}
-use Rattle.bound_names.specs.ClassMembers.{MakesEntryOf, MakesMemberOf, class_numbered}
+use Rattle.bound_names.specs.ClassMembers.{MakesEntryOf, MakesMemberOf}
 use Rattle.bound_names.specs.ClassMembers.{unknown_term}
 use Rattle.bound_names.specs.Owned.{IsShape}
 use Rattle.bound_names.proofs.UnknownTerms.{unknown_stands}
@@ -134,7 +133,7 @@ same_classes scope (space ∷ spaces) = ap (λ (cs : List Class). (let one : Lis
 -- the class with the number of a module's class is its table
 pub table_found : (scope : ScopeHere) (declared : Declarations) (space : Space) (class : ℕ) (found : Class) → AreNumbered (scope_view scope).spaces
     → declarations_view declared ≡ declarations_of the_outside (whole_scope (scope_view scope).spaces) (scope_view scope).spaces → slice_get (scope_view scope).spaces space.number ≡ Some space
-    → space.source.is_class ≡ true → class ≡ class_number (scope_view scope).spaces space → Some found ≡ class_numbered declared.classes.items class → found ≡ class_table (home (scope_view scope) space)
+    → space.source.is_class ≡ true → class ≡ class_number (scope_view scope).spaces space → Some found ≡ class_numbered (declarations_view declared) class → found ≡ class_table (home (scope_view scope) space)
 table_found scope declared space class found numbered is there own class_is found_is =
     let s : Scope = scope_view scope in
     let h : Scope = home s space in
@@ -142,14 +141,14 @@ table_found scope declared space class found numbered is there own class_is foun
     let count : class ≡ suc n = class_is ∙ class_counted 0 space.number s.spaces space (λ i o k. let z = numbered i o k in omega arith) there own in
     let all : map class_view declared.classes.items ≡ flat_map (λ (o : Space). class_of (home s o)) s.spaces = ap (λ (z : project.Declarations). z.classes) is ∙ same_classes scope s.spaces in
     let law : Some found ≡ Some (class_table h) =
-    found_is ∙ ap (λ (m : ℕ). class_numbered declared.classes.items m) count ∙ sym (slice_get-map class_view declared.classes.items n) ∙ ap (λ (l : List Class). slice_get l n) all
+    found_is ∙ ap (λ (m : ℕ). class_numbered (declarations_view declared) m) count ∙ ap (λ (l : List Class). slice_get l n) all
     ∙ class_there s s.spaces space.number n space there own refl in
     cc
 
 -- the events of the class whose procedure runs
 pub events_found : (scope : ScopeHere) (declared : Declarations) (class : ℕ) (found : Class) → AreNumbered (scope_view scope).spaces
     → declarations_view declared ≡ declarations_of the_outside (whole_scope (scope_view scope).spaces) (scope_view scope).spaces → slice_get (scope_view scope).spaces (scope_view scope).here.number ≡ Some (scope_view scope).here
-    → (scope_view scope).here.source.is_class ≡ true → class ≡ class_number (scope_view scope).spaces (scope_view scope).here → Some found ≡ class_numbered declared.classes.items class
+    → (scope_view scope).here.source.is_class ≡ true → class ≡ class_number (scope_view scope).spaces (scope_view scope).here → Some found ≡ class_numbered (declarations_view declared) class
     → found.events ≡ declared_events (home (scope_view scope) (scope_view scope).here) (scope_view scope).here.entries
 events_found scope declared class found numbered is there own class_is found_is =
     ap (λ (c : Class). c.events) (table_found scope declared (scope_view scope).here class found numbered is there own class_is found_is)
@@ -158,8 +157,8 @@ events_found scope declared class found numbered is there own class_is found_is 
 pub field_is : (scope : ScopeHere) (declared : Declarations) (space : Space) (number : ℕ) (e : Entry) (v : Variable) (class field : ℕ) (found : Class) (d : Declaration) (x : Shape) → AreNumbered (scope_view scope).spaces
     → declarations_view declared ≡ declarations_of the_outside (whole_scope (scope_view scope).spaces) (scope_view scope).spaces → slice_get (scope_view scope).spaces space.number ≡ Some space
     → slice_get space.entries number ≡ Some e → space.source.is_class ≡ true → e.what ≡ a_variable v → class ≡ class_number (scope_view scope).spaces space → field ≡ field_number space number
-    → Some found ≡ class_numbered declared.classes.items class → Some d ≡ slice_get found.fields field → IsShape d.of (has_bounds d) x
-    → IsShape (declared_variable (home (scope_view scope) space) v).of (has_bounds (declared_variable (home (scope_view scope) space) v)) x
+    → Some found ≡ class_numbered (declarations_view declared) class → Some d ≡ slice_get found.fields field → IsShape d.of (length d.bounds) x
+    → IsShape (declared_variable (home (scope_view scope) space) v).of (length (declared_variable (home (scope_view scope) space) v).bounds) x
 field_is scope declared space number e v class field found d x numbered is there at own what class_is number_is found_is d_is shape =
     let s : Scope = scope_view scope in
     let h : Scope = home s space in
@@ -168,46 +167,46 @@ field_is scope declared space number e v class field found d x numbered is there
     let one : Some d ≡ Some (declared_variable h v) =
     d_is ∙ ap (λ (l : List Declaration). slice_get l field) fields ∙ ap (λ (m : ℕ). slice_get (module_declarations h space.entries) m) number_is ∙ variable_at h space.entries number (field_number space number) e v at what refl in
     let same : d ≡ declared_variable h v = cc in
-    subst (λ (z : Declaration). IsShape z.of (has_bounds z) x) same shape
+    subst (λ (z : Declaration). IsShape z.of (length z.bounds) x) same shape
 
 -- ---- a variable of an object that was pushed
 
 variable_is : (env : Env) (base : bound.Expr) (space : Space) (number : ℕ) (name : Identifier) (public : Bool) (v : Variable) (field : ℕ) (made : Option ℕ) (x : Shape)
-    → IsShape (declared_variable (home env.scope space) v).of (has_bounds (declared_variable (home env.scope space) v)) x → field ≡ field_number space number → made ≡ made_by v.type_clause (declared_view x.of)
-    → object_term env base space number (record { name = name; is_public = public; what = a_variable v }) ≡ made_place made (object_field base field (declared_view x.of) x.is_bounded) (declared_view x.of) x.is_bounded false
+    → IsShape (declared_variable (home env.scope space) v).of (length (declared_variable (home env.scope space) v).bounds) x → field ≡ field_number space number → made ≡ made_by v.type_clause (declared_view x.of)
+    → object_term env base space number (record { name = name; is_public = public; what = a_variable v }) ≡ made_place made (object_field base field (declared_view x.of) (not (x.bounds == 0))) (declared_view x.of) x.bounds false
 variable_is env base space number name public v field made x shape number_is made_is =
     let d = declared_variable (home env.scope space) v in
     let n : ℕ = field_number space number in
-    ap (λ (u : Declared). made_place (made_by v.type_clause u) (object_field base n u (has_bounds d)) u (has_bounds d) false) shape.of_is
-    ∙ ap (λ (b : Bool). made_place (made_by v.type_clause (declared_view x.of)) (object_field base n (declared_view x.of) b) (declared_view x.of) b false) shape.bounded_is
-    ∙ ap (λ (o : Option ℕ). made_place o (object_field base n (declared_view x.of) x.is_bounded) (declared_view x.of) x.is_bounded false) (sym made_is)
-    ∙ ap (λ (i : ℕ). made_place made (object_field base i (declared_view x.of) x.is_bounded) (declared_view x.of) x.is_bounded false) (sym number_is)
+    ap (λ (u : Declared). made_place (made_by v.type_clause u) (object_field base n u (has_bounds d)) u (length d.bounds) false) shape.of_is
+    ∙ ap (λ (m : ℕ). made_place (made_by v.type_clause (declared_view x.of)) (object_field base n (declared_view x.of) (not (m == 0))) (declared_view x.of) m false) shape.bounds_are
+    ∙ ap (λ (o : Option ℕ). made_place o (object_field base n (declared_view x.of) (not (x.bounds == 0))) (declared_view x.of) x.bounds false) (sym made_is)
+    ∙ ap (λ (i : ℕ). made_place made (object_field base i (declared_view x.of) (not (x.bounds == 0))) (declared_view x.of) x.bounds false) (sym number_is)
 
 pub variable_there : (env : Env) (space : Space) (number : ℕ) (name : Identifier) (public : Bool) (v : Variable) (field : ℕ) (x : Shape) (d : Drafted)
-    → IsShape (declared_variable (home env.scope space) v).of (has_bounds (declared_variable (home env.scope space) v)) x → field ≡ field_number space number → None ≡ made_by v.type_clause (declared_view x.of)
-    → MakesEntryOf env space number (record { name = name; is_public = public; what = a_variable v }) d d (term.Place (kinds.ObjectField field x.of x.is_bounded) x.of x.is_bounded false false)
+    → IsShape (declared_variable (home env.scope space) v).of (length (declared_variable (home env.scope space) v).bounds) x → field ≡ field_number space number → None ≡ made_by v.type_clause (declared_view x.of)
+    → MakesEntryOf env space number (record { name = name; is_public = public; what = a_variable v }) d d (term.Place (kinds.ObjectField field x.of (not (x.bounds == 0))) x.of x.bounds false false)
 variable_there env space number name public v field x d shape number_is made_is = record {
   grown = grown_same d;
   named = tt;
   stands = λ base below k. record {
-    at = object_field base field (declared_view x.of) x.is_bounded;
+    at = object_field base field (declared_view x.of) (not (x.bounds == 0));
     is = variable_is env base space number name public v field None x shape number_is made_is;
-    ends = λ n. ap (λ (st : List Piece). of_value (λ (e : bound.Expr). a_place (object_field e field (declared_view x.of) x.is_bounded)) st) k;
+    ends = λ n. ap (λ (st : List Piece). of_value (λ (e : bound.Expr). a_place (object_field e field (declared_view x.of) (not (x.bounds == 0)))) st) k;
   };
 }
 
 pub variable_made : (env : Env) (space : Space) (number : ℕ) (name : Identifier) (public : Bool) (v : Variable) (field class : ℕ) (x : Shape) (place : Place) (d e : Drafted)
-    → IsShape (declared_variable (home env.scope space) v).of (has_bounds (declared_variable (home env.scope space) v)) x → field ≡ field_number space number → Some class ≡ made_by v.type_clause (declared_view x.of)
-    → e ≡ record d { pieces = put d.tables (node_of (kinds.ObjectField field x.of x.is_bounded) place x.of) d.pieces }
-    → MakesEntryOf env space number (record { name = name; is_public = public; what = a_variable v }) d e (term.Place (kinds.AsNew class) x.of x.is_bounded false true)
+    → IsShape (declared_variable (home env.scope space) v).of (length (declared_variable (home env.scope space) v).bounds) x → field ≡ field_number space number → Some class ≡ made_by v.type_clause (declared_view x.of)
+    → e ≡ record d { pieces = put d.tables (node_of (kinds.ObjectField field x.of (not (x.bounds == 0))) place x.of) d.pieces }
+    → MakesEntryOf env space number (record { name = name; is_public = public; what = a_variable v }) d e (term.Place (kinds.AsNew class) x.of x.bounds false true)
 variable_made env space number name public v field class x place d e shape number_is made_is eq =
-    let node = node_of (kinds.ObjectField field x.of x.is_bounded) place x.of in
-    let P : Drafted → Type 0 = λ (z : Drafted). MakesEntryOf env space number (record { name = name; is_public = public; what = a_variable v }) d z (term.Place (kinds.AsNew class) x.of x.is_bounded false true) in
+    let node = node_of (kinds.ObjectField field x.of (not (x.bounds == 0))) place x.of in
+    let P : Drafted → Type 0 = λ (z : Drafted). MakesEntryOf env space number (record { name = name; is_public = public; what = a_variable v }) d z (term.Place (kinds.AsNew class) x.of x.bounds false true) in
     subst P (sym eq) (record {
       grown = grown_pieces d (put d.tables node d.pieces);
       named = tt;
       stands = λ base below k. record {
-        at = as_new class (object_field base field (declared_view x.of) x.is_bounded);
+        at = as_new class (object_field base field (declared_view x.of) (not (x.bounds == 0)));
         is = variable_is env base space number name public v field (Some class) x shape number_is made_is;
         ends = λ n. ap (λ (st : List Piece). put_kind d.tables n (kinds.AsNew class) (put d.tables node st)) k;
       };

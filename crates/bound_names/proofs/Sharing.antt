@@ -11,7 +11,7 @@ use Rattle.bound_project.specs.View.{declaration_view, declarations_view}
 use Rattle.bound_members.specs.bound_calls.specs.bound_declarations.specs.constant_values.specs.declared_names.specs.binder.specs.Projects.{declarations_of, class_of}
 use Rattle.bound_members.specs.bound_calls.specs.bound_declarations.specs.constant_values.specs.declared_names.specs.binder.specs.Constants.{home}
 use Rattle.bound_members.specs.bound_calls.specs.bound_declarations.specs.constant_values.specs.declared_names.specs.binder.specs.Declarations.{What, a_variable, a_constant, an_enum, a_member, a_type, an_event, a_procedure, Entry}
-use Rattle.bound_members.specs.bound_calls.specs.bound_declarations.specs.constant_values.specs.declared_names.specs.binder.specs.Storage.{has_bounds, declared_variable, is_variable, module_declarations, module_storage, shared_before, shared_from, shared_of, static_declarations}
+use Rattle.bound_members.specs.bound_calls.specs.bound_declarations.specs.constant_values.specs.declared_names.specs.binder.specs.Storage.{declared_variable, is_variable, module_declarations, module_storage, shared_before, shared_from, shared_of, static_declarations}
 use Rattle.bound_members.specs.bound_calls.specs.bound_declarations.specs.constant_values.specs.declared_names.specs.binder.specs.Scopes.{Scope, Space}
 use Rattle.bound_members.specs.bound_calls.specs.bound_declarations.specs.constant_values.specs.declared_names.specs.binder.specs.Types.{counted}
 use Rattle.bound_members.specs.bound_calls.specs.bound_declarations.specs.constant_values.specs.Rounds.{AreNumbered}
@@ -101,7 +101,7 @@ same_shared scope (space ∷ spaces) = ap (λ (ds : List Declaration). shared_of
 pub shared_is : (scope : ScopeHere) (declared : Declarations) (space : Space) (number : ℕ) (e : Entry) (v : Variable) (kept : Storage) (x : Shape) → AreNumbered (scope_view scope).spaces
     → declarations_view declared ≡ declarations_of the_outside (whole_scope (scope_view scope).spaces) (scope_view scope).spaces → slice_get (scope_view scope).spaces space.number ≡ Some space
     → slice_get space.entries number ≡ Some e → space.source.is_class ≡ false → e.what ≡ a_variable v → kept ≡ module_storage (scope_view scope) space number → SharedShape (map declaration_view declared.shared.items) kept x
-    → IsShape (declared_variable (home (scope_view scope) space) v).of (has_bounds (declared_variable (home (scope_view scope) space) v)) x
+    → IsShape (declared_variable (home (scope_view scope) space) v).of (length (declared_variable (home (scope_view scope) space) v).bounds) x
 shared_is scope declared space number e v kept x numbered is there at class what kept_is h =
     let s : Scope = scope_view scope in
     let k : ℕ = counted is_variable (take number space.entries) in
@@ -113,7 +113,7 @@ shared_is scope declared space number e v kept x numbered is there at class what
     let number_is : h.number ≡ n = (let z : shared h.number ≡ shared n = sym h.kept_is ∙ kept_is in cc) in
     let found : Some h.declaration ≡ Some d = sym h.at ∙ ap (λ (l : List Declaration). slice_get l h.number) list ∙ ap (λ (m : ℕ). slice_get (shared_from s s.spaces) m) number_is ∙ law in
     let same : h.declaration ≡ d = cc in
-    subst (λ (z : Declaration). IsShape z.of (has_bounds z) x) same h.shape
+    subst (λ (z : Declaration). IsShape z.of (length z.bounds) x) same h.shape
 
 -- ---- the variables of a class
 

@@ -10,7 +10,7 @@ use Rattle.bound_project.specs.Project.{nowhere}
 use Rattle.bound_project.specs.Drafts.{Drafted}
 use Rattle.bound_members.specs.bound_calls.specs.bound_forms.specs.Terms.{Env, expression_of}
 use Rattle.bound_members.specs.bound_calls.specs.bound_forms.specs.Terms as plain
-use Rattle.bound_members.specs.bound_calls.specs.bound_forms.specs.ExpressionsBound.{object_member, unknown_member}
+use Rattle.bound_members.specs.bound_calls.specs.bound_forms.specs.Members.{object_member, unknown_member}
 use Rattle.bound_members.specs.bound_calls.specs.declared.term.HostMember.{HostMember}
 use Rattle.bound_members.specs.bound_calls.specs.declared.term.Term.TheVariants as term
 use Rattle.bound_members.specs.bound_calls.specs.Standing.{TermStands}

@@ -1,19 +1,17 @@
 -- Serves the code: members of objects of classes.
-use Rattle.std.specs.Prelude.{◌≡◌, ℕ, List, ◌∷◌, Option, None, zero, suc, option_map, slice_get}
+use Rattle.std.specs.Prelude.{◌≡◌, ℕ, List, ◌∷◌}
 use Rattle.vba_base.specs.declared.place.Place.{Place}
 use Rattle.vba_words.specs.declared.identifier.Identifier.{Identifier}
-use Rattle.bound_project.specs.declared.declarations.Class.{Class}
 use Rattle.bound_project.specs.declared.declared_type.DeclaredType.TheVariants.{Plain}
 use Rattle.bound_project.specs.declared.declared_type.ElementType.TheVariants as element
 use Rattle.bound_project.specs.declared.node.NodeKind.TheVariants as kinds
-use Rattle.bound_project.specs.View.{class_view}
 use Rattle.bound_project.specs.Expressions as expressions
 use Rattle.bound_project.specs.Pieces.{Piece, an_expr}
 use Rattle.bound_project.specs.Drafts.{Drafted}
 use Rattle.bound_project.specs.Project as project
 use Rattle.bound_members.specs.bound_calls.specs.bound_declarations.specs.constant_values.specs.declared_names.specs.binder.specs.Declarations.{Entry}
 use Rattle.bound_members.specs.bound_calls.specs.bound_declarations.specs.constant_values.specs.declared_names.specs.binder.specs.Scopes.{Space}
-use Rattle.bound_members.specs.bound_calls.specs.bound_forms.specs.ExpressionsBound.{class_member, object_term}
+use Rattle.bound_members.specs.bound_calls.specs.bound_forms.specs.Members.{class_member, object_term}
 use Rattle.bound_members.specs.bound_calls.specs.bound_forms.specs.Terms.{Env}
 use Rattle.bound_members.specs.bound_calls.specs.declared.term.Term.{Term}
 use Rattle.bound_members.specs.bound_calls.specs.declared.term.Term.TheVariants as term
@@ -34,8 +32,3 @@ pub record MakesEntryOf (env : Env) (space : Space) (number : ℕ) (entry : Entr
   pub grown : Grown d e
   pub named : TermNamed e.tables x
   pub stands : (base : expressions.Expr) (below : List Piece) → d.pieces ≡ an_expr base ∷ below → TermStands env e.tables x (object_term env base space number entry) e.pieces below
-
--- the class with a number, which counts from 1
-abbrev pub class_numbered : List Class → ℕ → Option project.Class
-class_numbered classes zero = None
-class_numbered classes (suc place) = option_map class_view (slice_get classes place)

@@ -1,9 +1,9 @@
 //! Objects of classes: what stands behind a dot behind one, and what names mean in a class.
 
-ghost use Rattle.std.specs.Prelude.{◌≡◌, IfOk, Some, map, option_map, slice_get, true};
+ghost use Rattle.std.specs.Prelude.{◌≡◌, IfOk, Some, length, map, true};
 ghost use Rattle.bound_project.specs.Drafts.{Drafted};
 ghost use Rattle.bound_project.specs.Expressions as expressions;
-ghost use Rattle.bound_project.specs.View.{class_view, event_view};
+ghost use Rattle.bound_project.specs.View.{event_view};
 ghost use Rattle.bound_members.specs.bound_calls.specs.bound_declarations.specs.constant_values.specs.declared_names.specs.binder.specs.Constants as constants;
 ghost use Rattle.bound_members.specs.bound_calls.specs.bound_declarations.specs.constant_values.specs.declared_names.specs.binder.specs.Declarations.{a_variable};
 ghost use Rattle.bound_members.specs.bound_calls.specs.bound_declarations.specs.constant_values.specs.declared_names.specs.binder.specs.Classes as classes;
@@ -11,14 +11,13 @@ ghost use Rattle.bound_members.specs.bound_calls.specs.bound_forms.specs.Express
 ghost use Rattle.bound_members.specs.bound_calls.specs.bound_declarations.specs.constant_values.specs.declared_names.specs.binder.specs.Scopes.{of_module};
 ghost use Rattle.bound_members.specs.bound_calls.specs.bound_declarations.specs.constant_values.specs.declared_names.specs.binder.specs.Storage.{declared_variable};
 ghost use Rattle.bound_members.specs.bound_calls.specs.bound_declarations.specs.constant_values.specs.declared_names.specs.binder.specs.EventTables.{declared_events};
-ghost use Rattle.bound_members.specs.bound_calls.specs.bound_declarations.specs.constant_values.specs.declared_names.specs.binder.specs.Storage as storage;
 ghost use Rattle.bound_members.specs.bound_calls.specs.bound_declarations.specs.constant_values.specs.Rounds.{IsThere};
 ghost use Rattle.bound_members.specs.bound_calls.specs.bound_declarations.specs.constant_values.specs.declared_names.specs.View.{entry_view, scope_view, space_view, what_view};
 ghost use Rattle.vba_tree.specs.View.{variable_view};
 ghost use Rattle.vba_words.specs.declared.identifier.Identifier as identifier;
 ghost use Rattle.bound_members.specs.bound_calls.specs.Steps.{MakesLeaf};
 ghost use Rattle.bound_project.specs.DraftView.{draft_view};
-ghost use Rattle.bound_names.specs.ClassMembers.{MakesEntryOf, MakesMemberOf, class_numbered};
+ghost use Rattle.bound_names.specs.ClassMembers.{MakesEntryOf, MakesMemberOf};
 ghost use Rattle.bound_names.specs.Owned.{IsShape};
 ghost use Rattle.bound_names.specs.View.{EnvStands, env_view};
 
@@ -32,28 +31,11 @@ use bound_members::bound_calls::bound_declarations::constant_values::declared_na
 use bound_members::bound_calls::bound_declarations::{NotYet, made_by};
 use bound_members::bound_calls::{Receiver, Term, push_node};
 use bound_project::{
-    Class, Declarations, DeclaredEvent, DeclaredType, Draft, ElementType, NodeKind, Storage,
+    DeclaredEvent, DeclaredType, Draft, ElementType, NodeKind, Storage, class_numbered,
 };
 use vba_base::{OrMemory, Place};
 use vba_tree::Variable;
 use vba_words::Identifier;
-
-/// The class at a place among the classes.
-fn class_in_place(declared: &Declarations, place: usize) -> Option<&Class>
-    ensures { option_map (λ found. class_view found.now) result ≡ option_map class_view (slice_get declared.now.classes.items place) }
-{
-    declared.classes.get(place)
-}
-
-/// The class with a number, which counts from 1.
-fn class_at(declared: &Declarations, number: u32) -> Option<&Class>
-    ensures { option_map (λ found. class_view found.now) result ≡ class_numbered declared.now.classes.items number }
-{
-    match number.checked_sub(1) {
-        Some(place) => class_in_place(declared, place as usize),
-        None => None,
-    }
-}
 
 /// The events of the class whose procedure this is.
 pub fn own_events<'a>(env: Env<'a>) -> Result<&'a [DeclaredEvent], OrMemory<NotYet>>
@@ -66,7 +48,7 @@ pub fn own_events<'a>(env: Env<'a>) -> Result<&'a [DeclaredEvent], OrMemory<NotY
         return Err(OrMemory::Fault(NotYet));
     }
     let class_number = class_number(scope.spaces, scope.here)?;
-    let Some(class) = class_at(env.declared, class_number) else {
+    let Some(class) = class_numbered(env.declared, class_number) else {
         return Err(OrMemory::Fault(NotYet));
     };
     Ok(class.events.as_slice())
@@ -86,17 +68,18 @@ fn field_shape<'a>(
     requires what { what_view entry.what ≡ a_variable (variable_view variable.now) }
     ensures number { IfOk result (λ found. found.0 ≡ classes.field_number (space_view space.now) number) }
     ensures shape { IfOk result (λ found. IsShape (declared_variable (constants.home (scope_view env.entry.constants.scope) (space_view space.now)) (variable_view variable.now)).of
-        (storage.has_bounds (declared_variable (constants.home (scope_view env.entry.constants.scope) (space_view space.now)) (variable_view variable.now))) found.1) }
+        (length (declared_variable (constants.home (scope_view env.entry.constants.scope) (space_view space.now)) (variable_view variable.now)).bounds) found.1) }
 {
     let class_number = class_number(env.constants.scope.spaces, space)?;
     let field = field_number(space, number)?;
-    let Some(class) = class_at(env.declared, class_number) else {
+    let Some(class) = class_numbered(env.declared, class_number) else {
         return Err(OrMemory::Fault(NotYet));
     };
     let Some(declaration) = declaration_at(&class.fields, field as usize) else {
         return Err(OrMemory::Fault(NotYet));
     };
-    Ok((field, known_shape(declaration)))
+    let shape = known_shape(declaration)?;
+    Ok((field, shape))
 }
 
 /// A variable of an object, which was pushed.
@@ -119,13 +102,13 @@ fn object_variable<'a>(
     let kind = NodeKind::ObjectField {
         field,
         of: shape.of,
-        is_bounded: shape.is_bounded,
+        is_bounded: shape.bounds != 0,
     };
     match made_by(&variable.type_clause, shape.of) {
         None => Ok(Term::Place {
             kind,
             of: shape.of,
-            is_bounded: shape.is_bounded,
+            bounds: shape.bounds,
             lends: false,
             makes: false,
         }),
@@ -134,7 +117,7 @@ fn object_variable<'a>(
             Ok(Term::Place {
                 kind: NodeKind::AsNew { class },
                 of: shape.of,
-                is_bounded: shape.is_bounded,
+                bounds: shape.bounds,
                 lends: false,
                 makes: true,
             })

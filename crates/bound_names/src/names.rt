@@ -1,4 +1,4 @@
-ghost use Rattle.std.specs.Prelude.{◌≡◌, ◌||◌, false, IfOk, Some, bytes_eq, map, option_map, slice_get};
+ghost use Rattle.std.specs.Prelude.{◌≡◌, ◌||◌, false, IfOk, Some, bytes_eq, length, map, option_map, slice_get};
 ghost use Rattle.vba_values.specs.declared.object.HostRef.TheVariants as host;
 ghost use Rattle.bound_project.specs.declared.declared_type.DeclaredType.TheVariants.{Plain};
 ghost use Rattle.bound_project.specs.declared.declared_type.ElementType.TheVariants as element;
@@ -35,8 +35,8 @@ use bound_members::bound_calls::bound_declarations::constant_values::{
     Constants, clause_type, meant_value,
 };
 use bound_members::bound_calls::bound_declarations::{
-    NotYet, arrayed, is_bounded, made_by, made_through, own_storage, parameter_type, result_type,
-    variable_type,
+    NotYet, arrayed, bounds_declared, bounds_written, made_by, made_through, own_storage,
+    parameter_type, result_type, variable_type,
 };
 use bound_members::bound_calls::{Ending, Receiver, Term, value_term};
 use bound_members::{HostKind, find_member, is_word};
@@ -196,11 +196,11 @@ pub enum Making {
     New(u32),
 }
 
-/// The type of a variable, and whether it is an array that is declared with bounds.
+/// The type of a variable, and how many bounds it is declared with as an array.
 #[derive(Clone, Copy)]
 pub struct Shape {
     pub of: DeclaredType,
-    pub is_bounded: bool,
+    pub bounds: u32,
 }
 
 /// How a variable declared As New is made, by its class.
@@ -226,13 +226,13 @@ fn making_through(through: bool) -> Making
 
 /// A variable, as a place.
 pub fn variable_term<'a>(storage: Storage, shape: Shape, making: Making) -> Term<'a>
-    ensures { (env : plain.Env) (d : Drafted) → MakesLeaf env d d result (made_term making (storage_view storage) (declared_view shape.of) shape.is_bounded) }
+    ensures { (env : plain.Env) (d : Drafted) → MakesLeaf env d d result (made_term making (storage_view storage) (declared_view shape.of) shape.bounds) }
 {
-    let Shape { of, is_bounded } = shape;
+    let Shape { of, bounds } = shape;
     let variable = Variable {
         storage,
         of,
-        is_bounded,
+        is_bounded: bounds != 0,
     };
     let (kind, makes) = match making {
         Making::Never => (NodeKind::Variable(variable), false),
@@ -242,7 +242,7 @@ pub fn variable_term<'a>(storage: Storage, shape: Shape, making: Making) -> Term
     Term::Place {
         kind,
         of,
-        is_bounded,
+        bounds,
         lends: true,
         makes,
     }
@@ -250,24 +250,21 @@ pub fn variable_term<'a>(storage: Storage, shape: Shape, making: Making) -> Term
 
 /// What is no array that is declared with bounds.
 fn unbounded(of: DeclaredType) -> Shape
-    ensures { IsShape (declared_view of) false result }
+    ensures { IsShape (declared_view of) 0 result }
 {
-    Shape {
-        of,
-        is_bounded: false,
-    }
+    Shape { of, bounds: 0 }
 }
 
 /// The result of a procedure.
 fn result_shape<'a>(scope: Scope<'a>, written: Written<'a>) -> Result<Shape, OrMemory<NotYet>>
-    ensures { IfOk result (λ shape. IsShape (storage.result_type (scope_view scope.entry) (written_view written.entry)) false shape) }
+    ensures { IfOk result (λ shape. IsShape (storage.result_type (scope_view scope.entry) (written_view written.entry)) 0 shape) }
 {
     Ok(unbounded(result_type(scope, written)?))
 }
 
 /// A parameter.
 fn parameter_shape<'a>(scope: Scope<'a>, parameter: &Parameter) -> Result<Shape, OrMemory<NotYet>>
-    ensures { IfOk result (λ shape. IsShape (storage.parameter_type (scope_view scope.entry) (parameter_view parameter.now)) false shape) }
+    ensures { IfOk result (λ shape. IsShape (storage.parameter_type (scope_view scope.entry) (parameter_view parameter.now)) 0 shape) }
 {
     Ok(unbounded(parameter_type(scope, parameter)?))
 }
@@ -280,11 +277,11 @@ fn variable_shape<'a>(
 ) -> Result<Shape, OrMemory<NotYet>>
     requires { AreConstants constants }
     ensures { IfOk result (λ shape. IsShape (declared_variable (scope_view constants.entry.scope) (variable_view variable.now)).of
-        (storage.has_bounds (declared_variable (scope_view constants.entry.scope) (variable_view variable.now))) shape) }
+        (length (declared_variable (scope_view constants.entry.scope) (variable_view variable.now)).bounds) shape) }
 {
-    let is_bounded = is_bounded(alloc, constants, variable)?;
+    let bounds = bounds_written(alloc, constants, variable)?;
     let of = variable_type(alloc, constants, variable)?;
-    Ok(Shape { of, is_bounded })
+    Ok(Shape { of, bounds })
 }
 
 /// An array that a ReDim declares.
@@ -295,7 +292,7 @@ fn array_shape<'a>(
     clause: &Option<TypeClause>,
 ) -> Result<Shape, OrMemory<NotYet>>
     requires { AreConstants constants }
-    ensures { IfOk result (λ shape. IsShape (type.array_of (storage.plain_clause_type (scope_view constants.entry.scope) name.now (option_map type_clause_view clause.now))) false shape) }
+    ensures { IfOk result (λ shape. IsShape (type.array_of (storage.plain_clause_type (scope_view constants.entry.scope) name.now (option_map type_clause_view clause.now))) 0 shape) }
 {
     let of = clause_type(alloc, constants, name.suffix, clause)?;
     Ok(unbounded(arrayed(true, of)?))
@@ -308,7 +305,7 @@ fn own_shape<'a>(
     local: Local<'a>,
 ) -> Result<(Shape, Making), OrMemory<NotYet>>
     requires { EnvStands env }
-    ensures { IfOk result (λ found. OwnShaped (scope_view env.entry.constants.scope) (local_view local.entry) (declared_view found.0.of) found.0.is_bounded found.1) }
+    ensures { IfOk result (λ found. OwnShaped (scope_view env.entry.constants.scope) (local_view local.entry) (declared_view found.0.of) found.0.bounds found.1) }
 {
     let scope = env.constants.scope;
     match local.own {
@@ -387,13 +384,14 @@ pub fn declaration_at(declared: &Vec<Declaration>, number: usize) -> Option<&Dec
 }
 
 /// What a declaration says of a variable.
-pub fn known_shape(declaration: &Declaration) -> Shape
-    ensures { IsShape (declaration_view declaration.now).of (storage.has_bounds (declaration_view declaration.now)) result }
+pub fn known_shape(declaration: &Declaration) -> Result<Shape, NoMemory>
+    ensures { IfOk result (λ shape. IsShape (declaration_view declaration.now).of (length (declaration_view declaration.now).bounds) shape) }
 {
-    Shape {
+    let bounds = bounds_declared(declaration)?;
+    Ok(Shape {
         of: declaration.of,
-        is_bounded: !declaration.bounds.as_slice().is_empty(),
-    }
+        bounds,
+    })
 }
 
 /// A variable that is kept among those of the project.
@@ -406,7 +404,8 @@ fn shared_shape(declared: &Declarations, kept: Storage) -> Result<Shape, OrMemor
     let Some(declaration) = declaration_at(&declared.shared, number as usize) else {
         return Err(OrMemory::Fault(NotYet));
     };
-    Ok(known_shape(declaration))
+    let shape = known_shape(declaration)?;
+    Ok(shape)
 }
 
 /// A variable of a standard module.

@@ -21,7 +21,9 @@ use Rattle.bound_project.specs.Drafts.{Drafted}
 use Rattle.bound_members.specs.bound_calls.specs.bound_forms.specs.Terms.{Env, Given, a_value, expression_of, read_of}
 use Rattle.bound_members.specs.bound_calls.specs.bound_forms.specs.Terms as terms
 use Rattle.bound_members.specs.bound_calls.specs.bound_forms.specs.ClassDefaults.{declared_in}
-use Rattle.bound_members.specs.bound_calls.specs.bound_forms.specs.ExpressionsBound.{callee, element_type, givens, indexed, item_of, may_be_instance, operand_of, place_told, term_of}
+use Rattle.bound_members.specs.bound_calls.specs.bound_forms.specs.Operands.{element_type, may_be_instance, operand_of, place_told}
+use Rattle.bound_members.specs.bound_calls.specs.bound_forms.specs.Members.{item_of}
+use Rattle.bound_members.specs.bound_calls.specs.bound_forms.specs.ExpressionsBound.{callee, givens, indexed, term_of}
 use Rattle.bound_members.specs.bound_calls.specs.declared.term.Term.{Term}
 use Rattle.bound_members.specs.bound_calls.specs.declared.term.Term.TheVariants as term
 use Rattle.bound_members.specs.bound_calls.specs.declared.term.Tree.{Tree}
@@ -35,7 +37,7 @@ use Rattle.bound_members.specs.bound_calls.specs.Calls.{PassesMissing, passed_in
 use Rattle.bound_members.specs.bound_calls.specs.class_defaults.specs.Items.{ArePlain}
 use Rattle.bound_members.specs.bound_calls.specs.Standing.{AllNamed, AllNumbers, Base, ItemNamed, NumbersStand, PlaceStands, Stands, TargetStands, along_given, missing_given, missing_value}
 use Rattle.bound_members.specs.bound_calls.specs.Steps.{Goes, PushesOperand}
-use Rattle.bound_operands.specs.Indexing.{is_along, is_led}
+use Rattle.bound_operands.specs.Indexing.{fits_count, is_along, is_led, place_element}
 use Rattle.bound_operands.specs.Leading.{PushesLeading}
 use Rattle.bound_members.specs.bound_calls.specs.Indexing.{AddsArgument, AddsMissing, Closes, EndsIndexed}
 use Rattle.bound_members.proofs.Listing.{listed_more, numbers_more, plain_numbers, taken_off, value_given, value_missing}
@@ -43,7 +45,7 @@ use Rattle.bound_members.proofs.LateItems.{no_item_late}
 use Rattle.bound_members.proofs.MemberSteps.{missing_node}
 use Rattle.bound_members.specs.bound_calls.proofs.Growing.{grown_same, grown_pieces, all_named, item_named, stands_grows}
 use Rattle.bound_members.specs.bound_calls.proofs.CallSteps.{goes_missing, tree_ended}
-use Rattle.bound_operands.proofs.Elements.{along_are, as_led, as_listed, as_numbers, element_of_type, from_led, from_listed, from_numbers, led_are, no_item_elements, no_item_host, numbers_are, place_along, place_indexed, place_led, same_place}
+use Rattle.bound_operands.proofs.Elements.{along_are, as_led, as_listed, as_numbers, element_of_type, fits_numbers, from_led, from_listed, from_numbers, led_are, no_item_elements, no_item_host, numbers_are, place_along, place_indexed, place_led, same_place}
 
 -- ---- one more number
 
@@ -203,44 +205,45 @@ goes_argument env x i j xs old between new comma d e o b n k m =
 there_are : (x : Indexed) (made : List bound.Expr) → 0 < x.count → x.count ≡ length made → 0 < length made
 there_are x made lt c = omega (arith, lt, c)
 
-pub ends_variable : (x : Indexed) (v : Variable) → x.target ≡ target.Variable v → 0 < x.count → EndsIndexed x (term.Place (kinds.Item v x.count) x.of false x.lends false)
-ends_variable x v is lt = record {
+pub ends_variable : (x : Indexed) (v : Variable) → x.target ≡ target.Variable v → 0 < x.count → fits_count x.bounds x.count ≡ true → EndsIndexed x (place_element x (kinds.Item v x.count))
+ends_variable x v is lt fits = record {
   named = λ t. tt;
   stands = λ env t e args ps below s.
       let gs = givens env args in
       let place = place_told e in
-      let T : Target → Type 0 = λ (z : Target). TargetStands env z x.of x.lends place (callee env e (term_of env e)) s.between below in
+      let T : Target → Type 0 = λ (z : Target). TargetStands env z x.of x.bounds x.lends x.makes place (callee env e (term_of env e)) s.between below in
       let q = subst T is s.target_is in
       let N : Target → Type 0 = λ (z : Target). NumbersStand env z gs s.made in
       let es = exprs_of s.made in
       let numbers = numbers_are (operand_of env) gs s.made (subst N is s.numbers) (there_are x s.made lt s.count_is) in
-      let A : terms.Term → Type 0 = λ (z : terms.Term). PlaceStands t (kinds.Item v x.count) x.of false x.lends false (indexed env place (item_of env place z) gs) ps below in
+      let A : terms.Term → Type 0 = λ (z : terms.Term). PlaceStands t (kinds.Item v x.count) x.of 0 x.lends x.makes (indexed env place (item_of env place z) gs) ps below in
       subst A (sym q.is) (record {
         at = item (variable_view v) es;
-        is = ap (λ (z : terms.Term). indexed env place z gs) (same_place env place (bound.variable (variable_view v)) q.whole q.bounded x.lends q.makes (no_item_elements env (read_of q.makes (bound.variable (variable_view v))) place q.whole (declared_view x.of)
-            (element_of_type (may_be_instance env (expression_of (read_of q.makes (bound.variable (variable_view v))) place q.whole)) (element_type q.whole) (declared_view x.of) q.element_is)))
-            ∙ place_indexed env place (bound.variable (variable_view v)) q.whole q.bounded x.lends q.makes gs (declared_view x.of) es q.element_is numbers;
+        is = ap (λ (z : terms.Term). indexed env place z gs) (same_place env place (bound.variable (variable_view v)) q.whole x.bounds x.lends x.makes (no_item_elements env (read_of x.makes (bound.variable (variable_view v))) place q.whole (declared_view x.of)
+            (element_of_type (may_be_instance env (expression_of (read_of x.makes (bound.variable (variable_view v))) place q.whole)) (element_type q.whole) (declared_view x.of) q.element_is)))
+            ∙ place_indexed env place (bound.variable (variable_view v)) q.whole x.bounds x.lends x.makes gs (declared_view x.of) es q.element_is (fits_numbers (operand_of env) x.bounds x.count gs s.made fits s.count_is (subst N is s.numbers)) numbers;
         ends = λ n. ap (λ (o : Option (Exprs × List Piece)). of_found (λ (xs : Exprs). a_place (item (variable_view v) xs)) o) (taken_off x.count s.made ps s.between s.count_is s.on_top) ∙ ap (λ (st : List Piece). a_place (item (variable_view v) es) ∷ st) q.none_pushed;
       });
 }
 
-pub ends_place : (x : Indexed) → x.target ≡ target.Place → 0 < x.count → EndsIndexed x (term.Place (kinds.Element x.count) x.of false x.lends false)
-ends_place x is lt = record {
+pub ends_place : (x : Indexed) → x.target ≡ target.Place → 0 < x.count → fits_count x.bounds x.count ≡ true → EndsIndexed x (place_element x (kinds.Element x.count))
+ends_place x is lt fits = record {
   named = λ t. tt;
   stands = λ env t e args ps below s.
       let gs = givens env args in
       let place = place_told e in
-      let T : Target → Type 0 = λ (z : Target). TargetStands env z x.of x.lends place (callee env e (term_of env e)) s.between below in
+      let T : Target → Type 0 = λ (z : Target). TargetStands env z x.of x.bounds x.lends x.makes place (callee env e (term_of env e)) s.between below in
       let q = subst T is s.target_is in
       let N : Target → Type 0 = λ (z : Target). NumbersStand env z gs s.made in
       let es = exprs_of s.made in
       let numbers = numbers_are (operand_of env) gs s.made (subst N is s.numbers) (there_are x s.made lt s.count_is) in
-      let A : terms.Term → Type 0 = λ (z : terms.Term). PlaceStands t (kinds.Element x.count) x.of false x.lends false (indexed env place (item_of env place z) gs) ps below in
+      let A : terms.Term → Type 0 = λ (z : terms.Term). PlaceStands t (kinds.Element x.count) x.of 0 x.lends x.makes (indexed env place (item_of env place z) gs) ps below in
       subst A (sym q.is) (record {
         at = element q.at es;
-        is = ap (λ (z : terms.Term). indexed env place z gs) (same_place env place q.at q.whole q.bounded x.lends q.makes (no_item_elements env (read_of q.makes q.at) place q.whole (declared_view x.of)
-            (element_of_type (may_be_instance env (expression_of (read_of q.makes q.at) place q.whole)) (element_type q.whole) (declared_view x.of) q.element_is)))
-            ∙ place_indexed env place q.at q.whole q.bounded x.lends q.makes gs (declared_view x.of) es q.element_is numbers ∙ ap (λ (y : Lvalue). terms.a_place y (declared_view x.of) false x.lends false) (q.no_variable es);
+        is = ap (λ (z : terms.Term). indexed env place z gs) (same_place env place q.at q.whole x.bounds x.lends x.makes (no_item_elements env (read_of x.makes q.at) place q.whole (declared_view x.of)
+            (element_of_type (may_be_instance env (expression_of (read_of x.makes q.at) place q.whole)) (element_type q.whole) (declared_view x.of) q.element_is)))
+            ∙ place_indexed env place q.at q.whole x.bounds x.lends x.makes gs (declared_view x.of) es q.element_is (fits_numbers (operand_of env) x.bounds x.count gs s.made fits s.count_is (subst N is s.numbers)) numbers
+            ∙ ap (λ (y : Lvalue). terms.a_place y (declared_view x.of) 0 x.lends x.makes) (q.no_variable es);
         ends = λ n.
             ap (λ (o : Option (Exprs × List Piece)). of_place_found (λ (y : Lvalue) (xs : Exprs). a_place (element y xs)) o) (taken_off x.count s.made ps s.between s.count_is s.on_top)
             ∙ ap (λ (st : List Piece). of_place (λ (y : Lvalue). a_place (element y es)) st) q.on_top;
@@ -253,7 +256,7 @@ ends_value x is lt = record {
   stands = λ env t e args ps below s.
       let gs = givens env args in
       let place = place_told e in
-      let T : Target → Type 0 = λ (z : Target). TargetStands env z x.of x.lends place (callee env e (term_of env e)) s.between below in
+      let T : Target → Type 0 = λ (z : Target). TargetStands env z x.of x.bounds x.lends x.makes place (callee env e (term_of env e)) s.between below in
       let q = subst T is s.target_is in
       let N : Target → Type 0 = λ (z : Target). NumbersStand env z gs s.made in
       let es = exprs_of s.made in
@@ -267,22 +270,22 @@ ends_value x is lt = record {
 }
 
 -- what arguments lead to
-pub ends_place_along : (x : Indexed) → x.target ≡ target.PlaceAlong → 0 < x.count → EndsIndexed x (term.Place (kinds.ElementAlong x.count) x.of false x.lends false)
+pub ends_place_along : (x : Indexed) → x.target ≡ target.PlaceAlong → 0 < x.count → EndsIndexed x (place_element x (kinds.ElementAlong x.count))
 ends_place_along x is lt = record {
   named = λ t. tt;
   stands = λ env t e args ps below s.
       let gs = givens env args in
       let place = place_told e in
-      let T : Target → Type 0 = λ (z : Target). TargetStands env z x.of x.lends place (callee env e (term_of env e)) s.between below in
+      let T : Target → Type 0 = λ (z : Target). TargetStands env z x.of x.bounds x.lends x.makes place (callee env e (term_of env e)) s.between below in
       let q = subst T is s.target_is in
       let N : Target → Type 0 = λ (z : Target). NumbersStand env z gs s.made in
       let es = exprs_of s.made in
       let along = along_are env gs s.made (subst N is s.numbers) (there_are x s.made lt s.count_is) in
-      let A : terms.Term → Type 0 = λ (z : terms.Term). PlaceStands t (kinds.ElementAlong x.count) x.of false x.lends false (indexed env place (item_of env place z) gs) ps below in
+      let A : terms.Term → Type 0 = λ (z : terms.Term). PlaceStands t (kinds.ElementAlong x.count) x.of 0 x.lends x.makes (indexed env place (item_of env place z) gs) ps below in
       subst A (sym q.is) (record {
         at = element_along q.at es;
-        is = ap (λ (z : terms.Term). indexed env place z gs) (same_place env place q.at q.whole q.bounded x.lends q.makes (no_item_late env place (read_of q.makes q.at) q.whole q.late))
-            ∙ place_along env place q.at q.whole q.bounded x.lends q.makes gs es q.late along ∙ ap (λ (u : Declared). terms.a_place (element_along q.at es) u false x.lends false) (sym q.of_is);
+        is = ap (λ (z : terms.Term). indexed env place z gs) (same_place env place q.at q.whole q.bounds x.lends x.makes (no_item_late env place (read_of x.makes q.at) q.whole q.late))
+            ∙ place_along env place q.at q.whole q.bounds x.lends x.makes gs es q.late along ∙ ap (λ (u : Declared). terms.a_place (element_along q.at es) u 0 x.lends x.makes) (sym q.of_is);
         ends = λ n.
             ap (λ (o : Option (Exprs × List Piece)). of_place_found (λ (y : Lvalue) (xs : Exprs). a_place (element_along y xs)) o) (taken_off x.count s.made ps s.between s.count_is s.on_top)
             ∙ ap (λ (st : List Piece). of_place (λ (y : Lvalue). a_place (element_along y es)) st) q.on_top;
@@ -295,7 +298,7 @@ ends_value_along x is lt = record {
   stands = λ env t e args ps below s.
       let gs = givens env args in
       let place = place_told e in
-      let T : Target → Type 0 = λ (z : Target). TargetStands env z x.of x.lends place (callee env e (term_of env e)) s.between below in
+      let T : Target → Type 0 = λ (z : Target). TargetStands env z x.of x.bounds x.lends x.makes place (callee env e (term_of env e)) s.between below in
       let q = subst T is s.target_is in
       let N : Target → Type 0 = λ (z : Target). NumbersStand env z gs s.made in
       let es = exprs_of s.made in
@@ -312,23 +315,23 @@ ends_value_along x is lt = record {
 pub so_many : (env : Env) (x : Indexed) (n : ℕ) (gs : List Given) (made : List bound.Expr) → x.count ≡ n → x.count ≡ length made → AllNumbers (along_given env) gs made → ArePlain n gs
 so_many env x n gs made same counted h = let A : ℕ → Type 0 = λ (m : ℕ). ArePlain m gs in subst A (sym counted ∙ same) (plain_numbers (along_given env) gs made h)
 
-pub ends_place_led : (x : Indexed) (n : ℕ) → x.target ≡ target.PlaceLed n → 0 < x.count → x.count ≡ n → EndsIndexed x (term.Place (kinds.ElementAlong x.count) x.of false x.lends false)
+pub ends_place_led : (x : Indexed) (n : ℕ) → x.target ≡ target.PlaceLed n → 0 < x.count → x.count ≡ n → EndsIndexed x (place_element x (kinds.ElementAlong x.count))
 ends_place_led x n is lt same = record {
   named = λ t. tt;
   stands = λ env t e args ps below s.
       let gs = givens env args in
       let place = place_told e in
-      let T : Target → Type 0 = λ (z : Target). TargetStands env z x.of x.lends place (callee env e (term_of env e)) s.between below in
+      let T : Target → Type 0 = λ (z : Target). TargetStands env z x.of x.bounds x.lends x.makes place (callee env e (term_of env e)) s.between below in
       let q = subst T is s.target_is in
       let N : Target → Type 0 = λ (z : Target). NumbersStand env z gs s.made in
       let numbers = subst N is s.numbers in
       let es = exprs_of s.made in
       let along = led_are env gs s.made numbers (there_are x s.made lt s.count_is) in
-      let A : terms.Term → Type 0 = λ (z : terms.Term). PlaceStands t (kinds.ElementAlong x.count) x.of false x.lends false (indexed env place (item_of env place z) gs) ps below in
+      let A : terms.Term → Type 0 = λ (z : terms.Term). PlaceStands t (kinds.ElementAlong x.count) x.of 0 x.lends x.makes (indexed env place (item_of env place z) gs) ps below in
       subst A (sym q.is) (record {
         at = element_along q.at es;
-        is = ap (λ (z : terms.Term). indexed env place z gs) (same_place env place q.at q.whole q.bounded x.lends q.makes (no_item_host env (read_of q.makes q.at) place q.whole q.no_host))
-            ∙ place_led env place q.at q.whole q.bounded x.lends q.makes gs (declared_view x.of) es (q.leads gs (so_many env x n gs s.made same s.count_is numbers)) along;
+        is = ap (λ (z : terms.Term). indexed env place z gs) (same_place env place q.at q.whole q.bounds x.lends x.makes (no_item_host env (read_of x.makes q.at) place q.whole q.no_host))
+            ∙ place_led env place q.at q.whole q.bounds x.lends x.makes gs (declared_view x.of) es (q.leads gs (so_many env x n gs s.made same s.count_is numbers)) along;
         ends = λ m.
             ap (λ (o : Option (Exprs × List Piece)). of_place_found (λ (y : Lvalue) (xs : Exprs). a_place (element_along y xs)) o) (taken_off x.count s.made ps s.between s.count_is s.on_top)
             ∙ ap (λ (st : List Piece). of_place (λ (y : Lvalue). a_place (element_along y es)) st) q.on_top;
@@ -341,7 +344,7 @@ ends_value_led x n is lt same = record {
   stands = λ env t e args ps below s.
       let gs = givens env args in
       let place = place_told e in
-      let T : Target → Type 0 = λ (z : Target). TargetStands env z x.of x.lends place (callee env e (term_of env e)) s.between below in
+      let T : Target → Type 0 = λ (z : Target). TargetStands env z x.of x.bounds x.lends x.makes place (callee env e (term_of env e)) s.between below in
       let q = subst T is s.target_is in
       let N : Target → Type 0 = λ (z : Target). NumbersStand env z gs s.made in
       let numbers = subst N is s.numbers in

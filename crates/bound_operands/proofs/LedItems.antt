@@ -1,5 +1,5 @@
 -- Arguments in brackets behind what is declared as of a class.
-use Rattle.std.proofs.Common.{◌≡◌, ℕ, zero, suc, ◌==◌, Bool, true, false, ◌&&◌, ◌||◌, not, List, [], ◌∷◌, length, is_some, Option, Some, None, option_map, if◌then◌else◌, refl, sym, ap, subst, ◌∙◌, arith}
+use Rattle.std.proofs.Common.{◌≡◌, ℕ, zero, suc, ◌==◌, Bool, true, false, ◌&&◌, ◌||◌, not, List, [], ◌∷◌, length, is_some, Option, Some, None, option_map, option_and_then, if◌then◌else◌, refl, sym, ap, subst, ◌∙◌, arith}
 use Rattle.std.proofs.lemmas.Bool.{and_parts, eqb-true}
 use Rattle.vba_base.specs.declared.place.Place.{Place}
 use Rattle.vba_values.specs.Types.{Declared}
@@ -22,9 +22,11 @@ use Rattle.bound_members.specs.bound_calls.specs.bound_declarations.specs.consta
 use Rattle.bound_members.specs.bound_calls.specs.bound_declarations.specs.constant_values.specs.declared_names.specs.binder.specs.Signatures.{call_type, parameters_in, reader}
 use Rattle.bound_members.specs.bound_calls.specs.bound_declarations.specs.constant_values.specs.declared_names.specs.binder.specs.Types.{is_object}
 use Rattle.bound_members.specs.bound_calls.specs.bound_forms.specs.ClassDefaults.{breaks, class_led, declared_in, known}
-use Rattle.bound_members.specs.bound_calls.specs.bound_forms.specs.Terms.{Env, Given, a_value, bound_arguments, broken_rule, expression_of, given_to, has_names, member_read, read_of, routine_term, takes, typed_value, value_in}
+use Rattle.bound_members.specs.bound_calls.specs.bound_forms.specs.Terms.{Env, Given, a_value, bound_arguments, broken_call, expression_of, given_to, has_names, member_read, read_as, read_of, routine_term, takes, typed_value}
 use Rattle.bound_members.specs.bound_calls.specs.bound_forms.specs.Terms as terms
-use Rattle.bound_members.specs.bound_calls.specs.bound_forms.specs.ExpressionsBound.{along_type, are_numbers, are_places, bare_call, behind_base, call_value, callee, element_place, given_as, gives_class as given_class, if_there, indexed, is_host_type, is_of_class, is_reference_type, item_of, lacking_call, may_be_instance, numbers_of, operand_of, place_told, term_of, term_or, type_known, typed_reference, with_type, wrong_arguments}
+use Rattle.bound_members.specs.bound_calls.specs.bound_forms.specs.Operands.{along_type, are_numbers, are_places, bare_call, behind_base, call_value, called_alone, element_place, fits_bounds, given_as, if_there, is_host_type, is_of_class, is_reference_type, lacking_call, may_be_instance, numbers_of, operand_of, place_told, read_alone, term_or, type_known, typed_reference, with_type}
+use Rattle.bound_members.specs.bound_calls.specs.bound_forms.specs.Members.{item_of}
+use Rattle.bound_members.specs.bound_calls.specs.bound_forms.specs.ExpressionsBound.{callee, gives_class as given_class, indexed, term_of, wrong_arguments}
 use Rattle.bound_members.specs.bound_calls.specs.declared.term.Ending.{Ending}
 use Rattle.bound_members.specs.bound_calls.specs.declared.term.Term.{Term}
 use Rattle.bound_members.specs.bound_calls.specs.declared.term.Term.TheVariants as term
@@ -46,29 +48,38 @@ use Rattle.bound_members.specs.bound_calls.proofs.Taking.{read_ends}
 use Rattle.bound_operands.specs.declared.functions.Taking.TheVariants as taking
 use Rattle.bound_operands.specs.Functions.{PushesMarked}
 use Rattle.bound_operands.specs.Leading.{BeginsLed, Leads, LedIndexed, LedUntaken, PushesLeading, PushesLed, PushesLedPlace, RefusesLed, gives_class}
-use Rattle.bound_operands.proofs.Elements.{begun, by_led, indexed_as, no_item_host, opens_whole, same_value}
+use Rattle.bound_operands.specs.Indexing.{OpensBehind, begun, whole_of}
+use Rattle.bound_operands.proofs.Elements.{HasSome, brackets_given, by_led, indexed_as, indexed_given, no_item_host, opens_whole, same_value}
 
 -- ---- arguments that aren't declared as of a class
 
 abbrev OfNoClass : terms.Term → Type 0
+OfNoClass (terms.a_place x of bounds lends makes) = is_of_class of ≡ false
 OfNoClass (a_value node of) = is_of_class of ≡ false
 OfNoClass t = Unit {0}
 
-no_given : (object refers : Bool) (lacks : Option bound.Expr) (e : bound.Expr) → is_of_class (bound.operand_type e) ≡ false → given_class lacks ≡ false
-    → given_class (or_else (or_else (if object then None else Some e) lacks) (if refers then Some e else None)) ≡ false
-no_given false refers lacks e h k = h
-no_given true refers (Some l) e h k = k
-no_given true true None e h k = h
-no_given true false None e h k = refl
+-- what a term is as it is, where it stands alone
+no_given : (object refers : Bool) (e : bound.Expr) → is_of_class (bound.operand_type e) ≡ false → given_class (or_else (if object then None else Some e) (if refers then Some e else None)) ≡ false
+no_given false refers e h = h
+no_given true true e h = h
+no_given true false e h = refl
 
-lacks_only : (lacks : Option bound.Expr) → given_class lacks ≡ false → given_class (or_else (or_else None lacks) None) ≡ false
-lacks_only None k = refl
-lacks_only (Some l) k = k
+read_no_class : (y : terms.Term) (place : Place) → OfNoClass y → given_class (or_else (read_as typed_value y place) (read_as typed_reference y place)) ≡ false
+read_no_class (terms.a_place x of bounds lends makes) place h = no_given (is_object of) (is_reference_type of || is_variant of) (expression_of (read_of makes x) place of) h
+read_no_class (a_value node of) place h = no_given (is_object of) (is_reference_type of || is_variant of) (expression_of node place of) h
+read_no_class y place h = refl
 
-called_no_class : (z : terms.Term) (place : Place) (lacks : Option bound.Expr) → OfNoClass z → given_class lacks ≡ false
-    → given_class (or_else (or_else (value_in typed_value z place) lacks) (value_in typed_reference z place)) ≡ false
-called_no_class (a_value node of) place lacks h k = no_given (is_object of) (is_reference_type of || is_variant of) lacks (expression_of node place of) h k
-called_no_class z place lacks h k = lacks_only lacks k
+-- what breaks a rule is of a declared type that isn't a class's either
+broken_no_class : (rule : ℕ) (place : Place) (of : Declared) (es : Exprs) → is_of_class of ≡ false → OfNoClass (broken_call rule place of es)
+broken_no_class rule place of es h = at (is_object of)
+  where
+    at : (b : Bool) → is_of_class (if b then type.variant else of) ≡ false
+    at true = refl
+    at false = h
+
+no_class_or : (y z : terms.Term) → OfNoClass y → OfNoClass z → OfNoClass (term_or y z)
+no_class_or terms.no_term z h k = k
+no_class_or y z h k = h
 
 abbrev no_value : Declared → terms.Term → Place → Option bound.Expr
 no_value of t place = None
@@ -84,38 +95,44 @@ bare_no_class env base space number w read reads h =
     let P : Option (ℕ × Written) → Type 0 = λ (o : Option (ℕ × Written)). OfNoClass (if_there (option_map bare o)) in
     subst P (sym reads) (called_type env base space read (bound_arguments no_value (parameters_in env.scope space read.1) []) h)
 
-lacks_plainly : (b : Bool) (place : Place) (es : Exprs) → given_class (if b then None else Some (broken_rule 25 place es)) ≡ false
-lacks_plainly true place es = refl
-lacks_plainly false place es = refl
+lacks_plainly : (b : Bool) (place : Place) (of : Declared) (es : Exprs) → is_of_class of ≡ false → OfNoClass (if_there (if b then None else Some (broken_call 25 place of es)))
+lacks_plainly true place of es h = tt
+lacks_plainly false place of es h = broken_no_class 25 place of es h
 
-lacking_no_class : (env : Env) (base : Option bound.Expr) (space : Space) (number : ℕ) (w : Written) (place : Place) (read : ℕ × Written) → reader env.scope space number w ≡ Some read → given_class (lacking_call env base space number w place) ≡ false
-lacking_no_class env base space number w place read reads = rw reads (lacks_plainly (takes (parameters_in env.scope space read.1) []) place (behind_base base no_exprs))
+lacking_no_class : (env : Env) (base : Option bound.Expr) (space : Space) (number : ℕ) (w : Written) (place : Place) (read : ℕ × Written) → reader env.scope space number w ≡ Some read → is_of_class (call_type env.scope space read.1) ≡ false
+    → OfNoClass (lacking_call env place base space number w)
+lacking_no_class env base space number w place read reads h =
+    let lacking : ℕ × Written → Option terms.Term = λ (f : ℕ × Written).
+    if takes (parameters_in env.scope space f.1) [] then None else Some (broken_call 25 place (call_type env.scope space f.1) (behind_base base no_exprs)) in
+    let P : Option (ℕ × Written) → Type 0 = λ (o : Option (ℕ × Written)). OfNoClass (if_there (option_and_then lacking o)) in
+    subst P (sym reads) (lacks_plainly (takes (parameters_in env.scope space read.1) []) place (call_type env.scope space read.1) (behind_base base no_exprs) h)
+
+called_no_class : (env : Env) (base : Option bound.Expr) (space : Space) (number : ℕ) (w : Written) (place : Place) (read : ℕ × Written) → reader env.scope space number w ≡ Some read → is_of_class (call_type env.scope space read.1) ≡ false
+    → OfNoClass (called_alone env place base space number w)
+called_no_class env base space number w place read reads h =
+    no_class_or (bare_call env base space number w) (lacking_call env place base space number w) (bare_no_class env base space number w read reads h) (lacking_no_class env base space number w place read reads h)
 
 routine_no_class : (env : Env) (base : Option bound.Expr) (space : Space) (number : ℕ) (w : Written) (place : Place) (read : ℕ × Written) → reader env.scope space number w ≡ Some read → is_of_class (call_type env.scope space read.1) ≡ false
     → given_class (given_as env (routine_term base space number w) place) ≡ false
-routine_no_class env None space number w place read reads h =
-    called_no_class (bare_call env None space number w) place (lacking_call env None space number w place) (bare_no_class env None space number w read reads h) (lacking_no_class env None space number w place read reads)
-routine_no_class env (Some b) space number w place read reads h =
-    called_no_class (bare_call env (Some b) space number w) place (lacking_call env (Some b) space number w place) (bare_no_class env (Some b) space number w read reads h) (lacking_no_class env (Some b) space number w place read reads)
+routine_no_class env None space number w place read reads h = read_no_class (called_alone env place None space number w) place (called_no_class env None space number w place read reads h)
+routine_no_class env (Some b) space number w place read reads h = read_no_class (called_alone env place (Some b) space number w) place (called_no_class env (Some b) space number w place read reads h)
 
-member_by : (b object refers : Bool) (x broken : bound.Expr) → is_of_class (bound.operand_type x) ≡ false → is_of_class (bound.operand_type broken) ≡ false
-    → given_class (or_else (or_else (if b then (if object then None else Some x) else None) (if b then None else Some broken)) (if b then (if refers then Some x else None) else None)) ≡ false
-member_by true object refers x broken h k = no_given object refers None x h refl
-member_by false object refers x broken h k = k
+either_no_class : (b : Bool) (y z : terms.Term) → OfNoClass y → OfNoClass z → OfNoClass (if b then y else z)
+either_no_class true y z h k = h
+either_no_class false y z h k = k
 
 member_no_class : (env : Env) (e : bound.Expr) (m : terms.HostMember) (place : Place) → is_of_class m.of ≡ false → given_class (given_as env (terms.a_host_member e m) place) ≡ false
 member_no_class env e m place h =
-    member_by (m.least == 0) (is_object m.of) (is_reference_type m.of || is_variant m.of) (expression_of (member_read e m) place m.of) (broken_rule 25 place (also e no_exprs)) h refl
+    read_no_class (read_alone place e m) place
+    (either_no_class (m.least == 0) (a_value (member_read e m) m.of) (broken_call 25 place m.of (also e no_exprs)) h (broken_no_class 25 place m.of (also e no_exprs) h))
 
 pub not_class : (env : Env) (t : Tables) (x : Term) (y : terms.Term) (place : Place) (ps below : List Piece) → gives_class x ≡ false → TermStands env t x y ps below → given_class (given_as env y place) ≡ false
-not_class env t (term.Place kind of bounded lends makes) y place ps below g h =
+not_class env t (term.Place kind of bounds lends makes) y place ps below g h =
     let P : terms.Term → Type 0 = λ (z : terms.Term). given_class (given_as env z place) ≡ false in
-    let u = declared_view of in
-    subst P (sym h.is) (no_given (is_object u) (is_reference_type u || is_variant u) None (expression_of (read_of makes h.at) place u) g refl)
+    subst P (sym h.is) (read_no_class (terms.a_place h.at (declared_view of) bounds lends makes) place g)
 not_class env t (term.Value e) y place ps below g h =
     let P : terms.Term → Type 0 = λ (z : terms.Term). given_class (given_as env z place) ≡ false in
-    let u = declared_view e.of in
-    subst P (sym h.is) (no_given (is_object u) (is_reference_type u || is_variant u) None (expression_of h.made place u) g refl)
+    subst P (sym h.is) (read_no_class (a_value h.made (declared_view e.of)) place g)
 not_class env t (term.Routine r) y place ps below g h =
     let P : terms.Term → Type 0 = λ (z : terms.Term). given_class (given_as env z place) ≡ false in
     let s = h.routine in
@@ -152,37 +169,35 @@ none_typed : (b : Bool) (o : Option Exprs) (T : Declared → Exprs → terms.Ter
 none_typed true o T = refl
 none_typed false o T = refl
 
+none_placed : (fits b : Bool) (o : Option Exprs) (T : Declared → Exprs → terms.Term) → (if fits then with_type (if b then None else None) o T else terms.no_term) ≡ terms.no_term
+none_placed true b o T = none_typed b o T
+none_placed false b o T = refl
+
 value_broken_class : (env : Env) (place : Place) (made : bound.Node) (k : ℕ) (gs : List Given) (rule : ℕ) → class_led (declared_in env.scope) k gs ≡ breaks rule
-    → indexed env place (a_value made (type.class k)) gs ≡ wrong_arguments env place rule (also (expression_of made place (type.class k))) gs
+    → indexed env place (a_value made (type.class k)) gs ≡ wrong_arguments env place rule type.variant (also (expression_of made place (type.class k))) gs
 value_broken_class env place made k gs rule h =
     let e = expression_of made place (type.class k) in
     let T : Declared → Exprs → terms.Term = λ (u : Declared) (xs : Exprs). a_value (element_value e xs) u in
-    rw h (ap (λ (z : terms.Term). term_or z (wrong_arguments env place rule (also e) gs)) (none_typed (may_be_instance env e) (numbers_of (operand_of env) gs) T))
-
-pub value_broken_of : (env : Env) (d : Declarations) (place : Place) (made : bound.Node) (k : ℕ) (of : Declared) (gs : List Given) (rule : ℕ) → declared_in env.scope ≡ d → of ≡ type.class k → class_led d k gs ≡ breaks rule
-    → indexed env place (a_value made of) gs ≡ wrong_arguments env place rule (also (expression_of made place of)) gs
-value_broken_of env d place made k of gs rule alike is h =
-    let P : Declared → Type 0 = λ (v : Declared). indexed env place (a_value made v) gs ≡ wrong_arguments env place rule (also (expression_of made place v)) gs in
-    subst P (sym is) (value_broken_class env place made k gs rule (ap (λ (c : Declarations). class_led c k gs) alike ∙ h))
+    rw h (ap (λ (z : terms.Term). term_or z (wrong_arguments env place rule type.variant (also e) gs)) (none_typed (may_be_instance env e) (numbers_of (operand_of env) gs) T))
 
 value_broken : (env : Env) (d : Declarations) (place : Place) (made : bound.Node) (k : ℕ) (of : Declared) (gs : List Given) (rule : ℕ) → declared_in env.scope ≡ d → of ≡ type.class k → class_led d k gs ≡ breaks rule
-    → indexed env place (item_of env place (a_value made of)) gs ≡ wrong_arguments env place rule (also (expression_of made place of)) gs
+    → indexed env place (item_of env place (a_value made of)) gs ≡ wrong_arguments env place rule type.variant (also (expression_of made place of)) gs
 value_broken env d place made k of gs rule alike is h =
-    let P : Declared → Type 0 = λ (v : Declared). indexed env place (item_of env place (a_value made v)) gs ≡ wrong_arguments env place rule (also (expression_of made place v)) gs in
+    let P : Declared → Type 0 = λ (v : Declared). indexed env place (item_of env place (a_value made v)) gs ≡ wrong_arguments env place rule type.variant (also (expression_of made place v)) gs in
     subst P (sym is) (value_broken_class env place made k gs rule (ap (λ (c : Declarations). class_led c k gs) alike ∙ h))
 
-place_broken_class : (env : Env) (place : Place) (at : Lvalue) (bounded lends makes : Bool) (k : ℕ) (gs : List Given) (rule : ℕ) → class_led (declared_in env.scope) k gs ≡ breaks rule
-    → indexed env place (item_of env place (terms.a_place at (type.class k) bounded lends makes)) gs ≡ wrong_arguments env place rule (also (expression_of (read_of makes at) place (type.class k))) gs
-place_broken_class env place at bounded lends makes k gs rule h =
+place_broken_class : (env : Env) (place : Place) (at : Lvalue) (bounds : ℕ) (lends makes : Bool) (k : ℕ) (gs : List Given) (rule : ℕ) → class_led (declared_in env.scope) k gs ≡ breaks rule
+    → indexed env place (item_of env place (terms.a_place at (type.class k) bounds lends makes)) gs ≡ wrong_arguments env place rule type.variant (also (expression_of (read_of makes at) place (type.class k))) gs
+place_broken_class env place at bounds lends makes k gs rule h =
     let e = expression_of (read_of makes at) place (type.class k) in
-    let T : Declared → Exprs → terms.Term = λ (u : Declared) (xs : Exprs). terms.a_place (element_place at xs) u false lends false in
-    rw h (ap (λ (z : terms.Term). term_or z (wrong_arguments env place rule (also e) gs)) (none_typed (may_be_instance env e) (numbers_of (operand_of env) gs) T))
+    let T : Declared → Exprs → terms.Term = λ (u : Declared) (xs : Exprs). terms.a_place (element_place at xs) u 0 lends makes in
+    rw h (ap (λ (z : terms.Term). term_or z (wrong_arguments env place rule type.variant (also e) gs)) (none_placed (fits_bounds bounds gs) (may_be_instance env e) (numbers_of (operand_of env) gs) T))
 
-place_broken : (env : Env) (d : Declarations) (place : Place) (at : Lvalue) (bounded lends makes : Bool) (k : ℕ) (of : Declared) (gs : List Given) (rule : ℕ) → declared_in env.scope ≡ d → of ≡ type.class k → class_led d k gs ≡ breaks rule
-    → indexed env place (item_of env place (terms.a_place at of bounded lends makes)) gs ≡ wrong_arguments env place rule (also (expression_of (read_of makes at) place of)) gs
-place_broken env d place at bounded lends makes k of gs rule alike is h =
-    let P : Declared → Type 0 = λ (v : Declared). indexed env place (item_of env place (terms.a_place at v bounded lends makes)) gs ≡ wrong_arguments env place rule (also (expression_of (read_of makes at) place v)) gs in
-    subst P (sym is) (place_broken_class env place at bounded lends makes k gs rule (ap (λ (c : Declarations). class_led c k gs) alike ∙ h))
+place_broken : (env : Env) (d : Declarations) (place : Place) (at : Lvalue) (bounds : ℕ) (lends makes : Bool) (k : ℕ) (of : Declared) (gs : List Given) (rule : ℕ) → declared_in env.scope ≡ d → of ≡ type.class k → class_led d k gs ≡ breaks rule
+    → indexed env place (item_of env place (terms.a_place at of bounds lends makes)) gs ≡ wrong_arguments env place rule type.variant (also (expression_of (read_of makes at) place of)) gs
+place_broken env d place at bounds lends makes k of gs rule alike is h =
+    let P : Declared → Type 0 = λ (v : Declared). indexed env place (item_of env place (terms.a_place at v bounds lends makes)) gs ≡ wrong_arguments env place rule type.variant (also (expression_of (read_of makes at) place v)) gs in
+    subst P (sym is) (place_broken_class env place at bounds lends makes k gs rule (ap (λ (c : Declarations). class_led c k gs) alike ∙ h))
 
 -- ---- numbers of arguments
 
@@ -221,32 +236,39 @@ led_broken false one rule h = let e : ◌≡◌ {A = Option ℕ} None (Some rule
 
 -- ---- arguments begin behind a value of a class
 
-value_led : (env : Env) (d : Declarations) → declared_in env.scope ≡ d → (x : Tree) (v : Ending) (k count : ℕ) (e f : Drafted) (j : Indexed) → PushesLed d k count v x.place e f (items.Indexed j) → OpensTerm env x (term.Value v) e f (items.Indexed j)
-value_led env d alike x v k count e f j p =
+-- numbers are some
+some_places : (b : Bool) (gs : List Given) (same : Bool) → (are_places gs && same) ≡ true → HasSome b gs
+some_places true [] same h = let e : false ≡ true = h in absurd cc
+some_places true (g ∷ gs) same h = tt
+some_places false gs same h = tt
+
+value_led : (b : Bool) (env : Env) (d : Declarations) → declared_in env.scope ≡ d → (x : Tree) (v : Ending) (k count : ℕ) (e f : Drafted) (j : Indexed) → PushesLed d k count v x.place e f (items.Indexed j) → OpensBehind b env x (term.Value v) e f (items.Indexed j)
+value_led b env d alike x v k count e f j p =
     let l : LedIndexed d k count x.place j = p.leads in
     let u = declared_view v.of in
     let of_is : u ≡ type.class k = class_is u k p.of_is in
-    let Q : Indexed → Type 0 = λ (z : Indexed). OpensTerm env x (term.Value v) e f (items.Indexed z) in
-    subst Q (sym l.is) (opens_whole env x (term.Value v) (begun x (target.ValueLed count) j.of false) e f p.grown refl (λ tree below at h.
+    let Q : Indexed → Type 0 = λ (z : Indexed). OpensBehind b env x (term.Value v) e f (items.Indexed z) in
+    subst Q (sym l.is) (opens_whole b env x (term.Value v) (whole_of x.place (target.ValueLed count) j.of) e f p.grown refl (λ tree below z at before h.
     let place = place_told tree in
-    let z = callee env tree (term_of env tree) in
+    let callee_is = callee env tree (term_of env tree) in
     let same : item_of env place z ≡ a_value h.made u = ap (λ (y : terms.Term). item_of env place y) h.is ∙ same_value env place h.made u (no_item_host env h.made place u (ap is_host_type of_is)) in
     record {
       whole = expression_of h.made place u;
-      is = λ gs es plain along. by_led env place z h.made u gs (declared_view j.of) es (indexed_as env place z h.made u same) (led_type env d k u (declared_view j.of) h.made place gs alike of_is (l.leads gs plain)) along;
+      is = λ gs es plain along.
+          by_led env place callee_is h.made u gs (declared_view j.of) es (indexed_given b env place callee_is z h.made u before same) (led_type env d k u (declared_view j.of) h.made place gs alike of_is (l.leads gs plain)) along;
       on_top = p.stands h.made below h.ends ∙ ap (λ (q : Place). an_expr (expression_of h.made q u) ∷ below) at;
     }))
 
-value_untaken : (env : Env) (d : Declarations) → declared_in env.scope ≡ d → (x : Tree) (v : Ending) (k count : ℕ) (e f : Drafted) (j : Untaken) → PushesLed d k count v x.place e f (items.Untaken j) → OpensTerm env x (term.Value v) e f (items.Untaken j)
-value_untaken env d alike x v k count e f j p =
+value_untaken : (b : Bool) (env : Env) (d : Declarations) → declared_in env.scope ≡ d → (x : Tree) (v : Ending) (k count : ℕ) (e f : Drafted) (j : Untaken) → PushesLed d k count v x.place e f (items.Untaken j) → OpensBehind b env x (term.Value v) e f (items.Untaken j)
+value_untaken b env d alike x v k count e f j p =
     let l : LedUntaken d k count x.place j = p.leads in
     let u = declared_view v.of in
     let of_is : u ≡ type.class k = class_is u k p.of_is in
-    let Q : Untaken → Type 0 = λ (z : Untaken). OpensTerm env x (term.Value v) e f (items.Untaken z) in
+    let Q : Untaken → Type 0 = λ (z : Untaken). OpensBehind b env x (term.Value v) e f (items.Untaken z) in
     subst Q (sym l.is) (record {
       grown = p.grown;
       named = tt;
-      stands = λ tree others is below base at h s.
+      stands = λ tree others is below base z at before h s.
           let place = place_told tree in
           let whole = expression_of h.made place u in (
             below,
@@ -256,9 +278,10 @@ value_untaken env d alike x v k count e f j p =
                 before = whole ∷ [];
                 before_long = refl;
                 wrong = λ gs rule w.
-                    let b = led_broken (are_places gs && (length gs == count)) l.rule rule w in
-                    ap (λ (z : terms.Term). indexed env place (item_of env place z) gs) h.is ∙ value_broken env d place h.made k u gs l.rule alike of_is (l.breaks_it gs (places_many count gs b.0))
-                    ∙ ap (λ (n : ℕ). wrong_arguments env place n (also whole) gs) b.1;
+                    let broken = led_broken (are_places gs && (length gs == count)) l.rule rule w in
+                    brackets_given b env place (callee env tree (term_of env tree)) z gs before (some_places b gs (length gs == count) broken.0)
+                    ∙ ap (λ (y : terms.Term). indexed env place (item_of env place y) gs) h.is ∙ value_broken env d place h.made k u gs l.rule alike of_is (l.breaks_it gs (places_many count gs broken.0))
+                    ∙ ap (λ (n : ℕ). wrong_arguments env place n type.variant (also whole) gs) broken.1;
                 on_top = p.stands h.made below h.ends ∙ ap (λ (q : Place). an_expr (expression_of h.made q u) ∷ below) at;
               },
               s,
@@ -266,10 +289,10 @@ value_untaken env d alike x v k count e f j p =
           );
     })
 
-pub opens_led_value : (env : Env) (d : Declarations) → declared_in env.scope ≡ d → (x : Tree) (v : Ending) (k count : ℕ) (e f : Drafted) (i : Item) → PushesLed d k count v x.place e f i → OpensTerm env x (term.Value v) e f i
-opens_led_value env d alike x v k count e f (items.Indexed j) p = value_led env d alike x v k count e f j p
-opens_led_value env d alike x v k count e f (items.Untaken j) p = value_untaken env d alike x v k count e f j p
-opens_led_value env d alike x v k count e f i p = absurd p.leads
+pub opens_led_value : (b : Bool) (env : Env) (d : Declarations) → declared_in env.scope ≡ d → (x : Tree) (v : Ending) (k count : ℕ) (e f : Drafted) (i : Item) → PushesLed d k count v x.place e f i → OpensBehind b env x (term.Value v) e f i
+opens_led_value b env d alike x v k count e f (items.Indexed j) p = value_led b env d alike x v k count e f j p
+opens_led_value b env d alike x v k count e f (items.Untaken j) p = value_untaken b env d alike x v k count e f j p
+opens_led_value b env d alike x v k count e f i p = absurd p.leads
 
 pub pushes_led : (d : Declarations) (k count : ℕ) (v : Ending) (place : Place) (e f : Drafted) (i : Item) → class_in (declared_view v.of) ≡ Some k → f ≡ record e { pieces = put e.tables (node_of v.kind place v.of) e.pieces } → Leads d k count place i
     → PushesLed d k count v place e f i
@@ -280,9 +303,9 @@ pushes_led d k count v place e f i of_is eq l =
 -- a value of a class that is assigned to
 pub pushes_led_place : (d : Declarations) (k count : ℕ) (v : Ending) (of : DeclaredType) (place : Place) (e b f : Drafted) → class_in (declared_view v.of) ≡ Some k → ((gs : List Given) → ArePlain count gs → class_led d k gs ≡ known (declared_view of))
     → b ≡ record e { pieces = put e.tables (node_of v.kind place v.of) e.pieces } → f ≡ record b { pieces = put b.tables (node_of kinds.PlaceOf place (Plain element_kind.Variant)) b.pieces }
-    → PushesLedPlace d count v place e f (record { place = place; target = target.LedAsPlace count; of = of; lends = false; count = 0 })
+    → PushesLedPlace d count v place e f (whole_of place (target.LedAsPlace count) of)
 pushes_led_place d k count v of place e b f class leads one two =
-    let x : Indexed = record { place = place; target = target.LedAsPlace count; of = of; lends = false; count = 0 } in
+    let x : Indexed = whole_of place (target.LedAsPlace count) of in
     let u = declared_view v.of in
     let of_is : u ≡ type.class k = class_is u k class in
     let n = node_of v.kind place v.of in
@@ -315,16 +338,16 @@ pushes_led_place d k count v of place e b f class leads one two =
 
 -- ---- and behind a place
 
-pub opens_led_place : (env : Env) (d : Declarations) → declared_in env.scope ≡ d → (x : Tree) (at : Ending) (bounded lends makes : Bool) (k count : ℕ) (of : DeclaredType) (e f : Drafted) → class_in (declared_view at.of) ≡ Some k
-    → (j : Indexed) → BeginsLed at x.place lends count of e f j → ((gs : List Given) → ArePlain count gs → class_led d k gs ≡ known (declared_view of))
-    → OpensTerm env x (term.Place at.kind at.of bounded lends makes) e f (items.Indexed j)
-opens_led_place env d alike x at bounded lends makes k count of e f class j b leads =
+pub opens_led_place : (env : Env) (d : Declarations) → declared_in env.scope ≡ d → (x : Tree) (at : Ending) (bounds : ℕ) (lends makes : Bool) (k count : ℕ) (of : DeclaredType) (e f : Drafted) → class_in (declared_view at.of) ≡ Some k
+    → (j : Indexed) → BeginsLed at x.place lends makes count of e f j → ((gs : List Given) → ArePlain count gs → class_led d k gs ≡ known (declared_view of))
+    → OpensTerm env x (term.Place at.kind at.of bounds lends makes) e f (items.Indexed j)
+opens_led_place env d alike x at bounds lends makes k count of e f class j b leads =
     let n = node_of at.kind x.place at.of in
     let ps = put e.tables n e.pieces in
     let u = declared_view at.of in
     let of_is : u ≡ type.class k = class_is u k class in
-    let I : Indexed → Type 0 = λ (z : Indexed). OpensTerm env x (term.Place at.kind at.of bounded lends makes) e f (items.Indexed z) in
-    let P : Drafted → Type 0 = λ (z : Drafted). OpensTerm env x (term.Place at.kind at.of bounded lends makes) e z (items.Indexed (begun x (target.PlaceLed count) of lends)) in
+    let I : Indexed → Type 0 = λ (z : Indexed). OpensTerm env x (term.Place at.kind at.of bounds lends makes) e f (items.Indexed z) in
+    let P : Drafted → Type 0 = λ (z : Drafted). OpensTerm env x (term.Place at.kind at.of bounds lends makes) e z (items.Indexed (begun x.place (target.PlaceLed count) of lends makes 0)) in
     subst I (sym b.is) (subst P (sym b.pushed) (record {
       grown = grown_pieces e ps;
       named = tt;
@@ -336,8 +359,7 @@ opens_led_place env d alike x at bounded lends makes k count of e f class j b le
             target_is = record {
               at = h.at;
               whole = u;
-              bounded = bounded;
-              makes = makes;
+              bounds = bounds;
               is = h.is;
               no_host = ap is_host_type of_is;
               leads = λ gs plain. led_type env d k u (declared_view of) (read_of makes h.at) (place_told tree) gs alike of_is (leads gs plain);
@@ -354,12 +376,12 @@ opens_led_place env d alike x at bounded lends makes k count of e f class j b le
       );
     }))
 
-pub opens_broken_place : (env : Env) (d : Declarations) → declared_in env.scope ≡ d → (x : Tree) (at : Ending) (bounded lends makes : Bool) (k count one : ℕ) (e f : Drafted) → class_in (declared_view at.of) ≡ Some k → (j : Untaken) → RefusesLed at makes x.place one count e f j
-    → ((gs : List Given) → ArePlain count gs → class_led d k gs ≡ breaks one) → OpensTerm env x (term.Place at.kind at.of bounded lends makes) e f (items.Untaken j)
-opens_broken_place env d alike x at bounded lends makes k count one e f class j pushed breaks_it =
+pub opens_broken_place : (env : Env) (d : Declarations) → declared_in env.scope ≡ d → (x : Tree) (at : Ending) (bounds : ℕ) (lends makes : Bool) (k count one : ℕ) (e f : Drafted) → class_in (declared_view at.of) ≡ Some k → (j : Untaken) → RefusesLed at makes x.place one count e f j
+    → ((gs : List Given) → ArePlain count gs → class_led d k gs ≡ breaks one) → OpensTerm env x (term.Place at.kind at.of bounds lends makes) e f (items.Untaken j)
+opens_broken_place env d alike x at bounds lends makes k count one e f class j pushed breaks_it =
     let u = declared_view at.of in
     let of_is : u ≡ type.class k = class_is u k class in
-    let y = term.Place at.kind at.of bounded lends makes in
+    let y = term.Place at.kind at.of bounds lends makes in
     let i = items.Untaken (record { place = x.place; refuser = refuser.Led one count }) in
     let n = node_of at.kind x.place at.of in
     let l = node_of (read_kind makes) x.place at.of in
@@ -382,8 +404,8 @@ opens_broken_place env d alike x at bounded lends makes k count one e f class j 
                 before_long = refl;
                 wrong = λ gs rule w.
                     let b = led_broken (are_places gs && (length gs == count)) one rule w in
-                    ap (λ (z : terms.Term). indexed env place (item_of env place z) gs) h.is ∙ place_broken env d place h.at bounded lends makes k u gs one alike of_is (breaks_it gs (places_many count gs b.0))
-                    ∙ ap (λ (m : ℕ). wrong_arguments env place m (also whole) gs) b.1;
+                    ap (λ (z : terms.Term). indexed env place (item_of env place z) gs) h.is ∙ place_broken env d place h.at bounds lends makes k u gs one alike of_is (breaks_it gs (places_many count gs b.0))
+                    ∙ ap (λ (m : ℕ). wrong_arguments env place m type.variant (also whole) gs) b.1;
                 on_top = read_ends makes e.tables h.at between.pieces below (h.ends n) l ∙ ap (λ (q : Place). an_expr (expression_of (read_of makes h.at) q u) ∷ below) told;
               },
               s,

@@ -33,11 +33,12 @@ use Rattle.bound_project.specs.Pieces.{Piece, an_expr, of_found, expr_of, put}
 use Rattle.bound_project.specs.Drafts.{Drafted}
 use Rattle.bound_members.specs.bound_calls.specs.bound_declarations.specs.constant_values.specs.declared_names.specs.binder.specs.Constants.{compare_in}
 use Rattle.bound_members.specs.bound_calls.specs.bound_declarations.specs.constant_values.specs.declared_names.specs.binder.specs.Options.{from_two}
-use Rattle.bound_members.specs.bound_calls.specs.bound_forms.specs.Terms.{Env, Given, a_value, given_to, has_names}
+use Rattle.bound_members.specs.bound_calls.specs.bound_forms.specs.Terms.{Env, Given, a_value, broken_call, given_to, has_names}
 use Rattle.bound_members.specs.bound_calls.specs.bound_forms.specs.Terms as terms
 use Rattle.bound_members.specs.bound_calls.specs.bound_forms.specs.ClassDefaults.{declared_in}
-use Rattle.bound_members.specs.bound_calls.specs.bound_forms.specs.ExpressionsBound.{callee, first_given, function_called, function_takes, function_value, function_values, givens, has_start, if_there, indexed, is_wrong, item_of, lacks_needed, needs, taken_as, takes_count, taking, term_of, place_told, term_or}
-use Rattle.bound_members.specs.bound_calls.specs.declared.term.Ending.{Ending}
+use Rattle.bound_members.specs.bound_calls.specs.bound_forms.specs.Operands.{first_given, function_takes, function_value, has_start, if_there, is_wrong, lacks_needed, needs, takes_count, place_told, term_or}
+use Rattle.bound_members.specs.bound_calls.specs.bound_forms.specs.Members.{item_of}
+use Rattle.bound_members.specs.bound_calls.specs.bound_forms.specs.ExpressionsBound.{callee, function_called, function_values, givens, indexed, taken_as, taking, term_of}
 use Rattle.bound_members.specs.bound_calls.specs.declared.term.Function.{Function}
 use Rattle.bound_members.specs.bound_calls.specs.declared.term.FunctionCall.{FunctionCall}
 use Rattle.bound_members.specs.bound_calls.specs.declared.term.Term.{Term}
@@ -53,6 +54,8 @@ use Rattle.bound_members.specs.bound_calls.specs.Standing.{AllValues, ArgumentIs
 use Rattle.bound_members.specs.bound_calls.proofs.Growing.{all_named, grown_pieces, grown_same, grown_twice, stands_grows}
 use Rattle.bound_members.specs.bound_calls.proofs.CallSteps.{tree_ended}
 use Rattle.bound_members.specs.bound_calls.specs.Calls.{ArgumentIs as PushedFor, MarksGiven, node_of}
+use Rattle.bound_members.specs.bound_calls.specs.Taking.{broken_ending, told_type}
+use Rattle.bound_members.specs.bound_calls.proofs.Lacking.{told_view}
 use Rattle.bound_members.proofs.Listing.{taken_off}
 
 -- ---- arguments begin
@@ -346,23 +349,22 @@ ends_function x of takes typed = record {
 }
 
 -- a function that doesn't take them
-abbrev pub untaken : FunctionCall → Ending
-untaken x = record { kind = kinds.Marked (record { rule = 25; place = x.place }) x.count; of = Plain element.Variant }
-
-pub ends_untaken : (x : FunctionCall) → call_takes x ≡ false → EndsFunction x (term.Value (untaken x))
-ends_untaken x takes = record {
+pub ends_untaken : (x : FunctionCall) (of : DeclaredType) → call_takes x ≡ false → declared_view of ≡ declared_of x.function.function x.function.is_text_form → EndsFunction x (term.Value (broken_ending 25 x.place of x.count))
+ends_untaken x of takes typed = record {
   named = λ t. tt;
   stands = λ env t e args ps below s.
       let f = x.function in
       let gs = givens env args in
       let place = place_told e in
       let broken : Refusal = record { rule = 25; place = x.place } in
-      let A : terms.Term → Type 0 = λ (z : terms.Term). indexed env place (item_of env place z) gs ≡ a_value (marked (record { rule = 25; place = place }) (exprs_of s.made)) type.variant in
-      let B : Place → Type 0 = λ (p : Place). indexed env place (item_of env place (callee env e (term_of env e))) gs ≡ a_value (marked (record { rule = 25; place = p }) (exprs_of s.made)) type.variant in
+      let u = declared_view (told_type of) in
+      let A : terms.Term → Type 0 = λ (z : terms.Term). indexed env place (item_of env place z) gs ≡ a_value (marked (record { rule = 25; place = place }) (exprs_of s.made)) u in
+      let B : Place → Type 0 = λ (p : Place). indexed env place (item_of env place (callee env e (term_of env e))) gs ≡ a_value (marked (record { rule = 25; place = p }) (exprs_of s.made)) u in
       record {
         made = marked broken (exprs_of s.made);
         is = subst B (sym s.place_is) (subst A (sym s.function_is.is)
-            (ap (λ (z : terms.Term). term_or z terms.no_term) (valued_call env place f.function f.is_text_form (base_number f.is_base_one) false gs s.made (takes_them env x e args ps below s ∙ takes) s.values)));
+            (ap (λ (z : terms.Term). term_or z terms.no_term) (valued_call env place f.function f.is_text_form (base_number f.is_base_one) false gs s.made (takes_them env x e args ps below s ∙ takes) s.values)
+            ∙ ap (λ (v : Declared). broken_call 25 place v (exprs_of s.made)) (sym typed) ∙ ap (λ (v : Declared). a_value (marked (record { rule = 25; place = place }) (exprs_of s.made)) v) (sym (told_view of))));
         ends = λ n. ap (λ (o : Option (Exprs × List Piece)). of_found (λ (xs : Exprs). expr_of n (marked broken xs)) o) (taken_off x.count s.made ps below s.count_is s.on_top);
       };
 }

@@ -35,7 +35,8 @@ use Rattle.bound_members.specs.bound_calls.specs.bound_declarations.specs.consta
 use Rattle.bound_members.specs.bound_calls.specs.bound_forms.specs.Terms.{Env, Given, Item as Taken_item, are_apart, bound_arguments, built, by_position, has_names, left_over, listed_values, routine_term, taken_by}
 use Rattle.bound_members.specs.bound_calls.specs.bound_forms.specs.Terms as terms
 use Rattle.bound_members.specs.bound_calls.specs.bound_forms.specs.ClassDefaults.{declared_in}
-use Rattle.bound_members.specs.bound_calls.specs.bound_forms.specs.ExpressionsBound.{along_value, argument_of, callee, givens, indexed, operand_of, term_of, term_or, wrong_term, place_told, call_node}
+use Rattle.bound_members.specs.bound_calls.specs.bound_forms.specs.Operands.{argument_of, term_or, place_told, call_node}
+use Rattle.bound_members.specs.bound_calls.specs.bound_forms.specs.ExpressionsBound.{callee, givens, indexed, term_of, wrong_term}
 use Rattle.bound_members.specs.bound_calls.specs.declared.term.Call.{Call}
 use Rattle.bound_members.specs.bound_calls.specs.declared.term.Ending.{Ending}
 use Rattle.bound_members.specs.bound_calls.specs.declared.term.Item.{Item}
@@ -415,7 +416,7 @@ called_gathered env r x values d e ending y place gs xs (g ∷ ns) es between th
     subst P (sym h.ending_is) (record {
       made = call_node s.base r.procedure args;
       is = ap (λ w. indexed env place w (gs ++ g ∷ ns)) s.is ∙ ap (λ w. term_or w (wrong_term env place z (gs ++ g ∷ ns))) (taken_routine env place s.base s.space s.number s.written (gs ++ g ∷ ns)
-          ∙ call_is value (operand_of env) (along_value env) env place (gs ++ g ∷ ns) s.base s.space s.number s.written s.read r.procedure (declared_view r.of) ps args s.reads s.procedure_is s.parameters_are s.of_is some_left given);
+          ∙ call_is env place (gs ++ g ∷ ns) s.base s.space s.number s.written s.read r.procedure (declared_view r.of) ps args s.reads s.procedure_is s.parameters_are s.of_is some_left given);
       ends = call_taken e.tables r.receiver s.base r.procedure h.arguments args e.pieces there below s.received on (all_taken h.arguments all e.pieces there count on_top);
     })
 

@@ -1,6 +1,6 @@
 -- What arguments that aren't taken do to the stack, and what they end.
 use Rattle.std.proofs.Common.{◌≡◌, ℕ, ◌+◌, ◌==◌, Bool, true, false, ◌&&◌, ◌||◌, not, List, [], ◌∷◌, ◌++◌, map, length, is_some, Option, Some, None, option_map, refl, sym, ap, subst, ◌∙◌, arith, length-append, ne_eqb, Bor}
-use Rattle.std.proofs.lemmas.List.{length-reverse, map_push, reverse-append, reverse-reverse}
+use Rattle.std.proofs.lemmas.List.{length-map, length-reverse, map_push, reverse-append, reverse-reverse}
 use Rattle.std.specs.Prelude.{reverse}
 use Rattle.vba_base.specs.declared.place.Place.{Place}
 use Rattle.vba_lexer.specs.declared.token.Token.{Token}
@@ -18,11 +18,15 @@ use Rattle.bound_project.proofs.Lists.{above_push, exprs_are}
 use Rattle.bound_project.specs.Pieces.{Piece, Tables, an_expr, expr_of, exprs_off, of_found}
 use Rattle.bound_project.specs.Drafts.{Drafted}
 use Rattle.bound_project.specs.declared.declarations.Declarations.{Declarations}
+use Rattle.bound_project.specs.declared.declared_type.DeclaredType.{DeclaredType}
 use Rattle.bound_project.specs.Project as project
-use Rattle.bound_project.specs.View.{declarations_view}
+use Rattle.bound_project.specs.View.{declarations_view, declared_view}
 use Rattle.bound_members.specs.bound_calls.specs.bound_forms.specs.ClassDefaults.{declared_in}
-use Rattle.bound_members.specs.bound_calls.specs.bound_forms.specs.Terms.{Env, Given, broken_value, has_names}
-use Rattle.bound_members.specs.bound_calls.specs.bound_forms.specs.ExpressionsBound.{are_numbers, are_places, argument_of, callee, givens, if_there, indexed, item_of, place_told, term_of}
+use Rattle.bound_members.specs.bound_calls.specs.bound_forms.specs.Terms.{Env, Given, a_value, broken_call, has_names}
+use Rattle.bound_members.specs.bound_calls.specs.bound_forms.specs.Operands.{are_numbers, are_places, argument_of, if_there, place_told}
+use Rattle.bound_members.specs.bound_calls.specs.bound_forms.specs.Operands as operands
+use Rattle.bound_members.specs.bound_calls.specs.bound_forms.specs.Members.{item_of}
+use Rattle.bound_members.specs.bound_calls.specs.bound_forms.specs.ExpressionsBound.{callee, givens, indexed, term_of}
 use Rattle.bound_members.specs.bound_calls.specs.declared.term.Item.{Item}
 use Rattle.bound_members.specs.bound_calls.specs.declared.term.Item.TheVariants as item
 use Rattle.bound_members.specs.bound_calls.specs.declared.term.Shape.{Shape}
@@ -30,15 +34,18 @@ use Rattle.bound_members.specs.bound_calls.specs.declared.term.Term.TheVariants 
 use Rattle.bound_members.specs.bound_calls.specs.declared.term.Tree.{Tree}
 use Rattle.bound_members.specs.bound_calls.specs.declared.term.Untaken.{Untaken}
 use Rattle.bound_members.specs.bound_calls.specs.Calls.{ArgumentIs, PushesArgument}
-use Rattle.bound_members.specs.bound_calls.specs.Shapes.{AreShaped, IsShaped, shapes_given, some_term, with_shapes}
-use Rattle.bound_members.specs.bound_calls.specs.Standing.{AllGiven, AllNamed, Base, ShapeStands, Stands, UntakenStands, ValueEnds, ValueStands, behind_values, missing_given, missing_value, named_given, plain_given, refused_rule, values_before}
+use Rattle.bound_members.specs.bound_calls.specs.Shapes.{AreShaped, IsShaped, shape_given, shapes_given, some_term, with_shapes}
+use Rattle.bound_members.specs.bound_calls.specs.Standing.{AllGiven, AllNamed, Base, ShapeStands, Stands, UntakenStands, ValueEnds, ValueStands, behind_values, missing_given, missing_value, named_given, plain_given, refused_rule, refused_type, values_before}
 use Rattle.bound_members.specs.bound_calls.specs.Steps.{Goes}
 use Rattle.bound_members.specs.bound_calls.specs.Taking.{broken_ending}
 use Rattle.bound_members.specs.bound_calls.proofs.CallSteps.{tree_ended}
 use Rattle.bound_members.specs.bound_calls.proofs.Growing.{all_named, grown_pieces, grown_same, stands_grows}
+use Rattle.bound_members.specs.bound_calls.proofs.Lacking.{told_view}
 use Rattle.bound_members.specs.bound_calls.proofs.Shaping.{rule_shaped}
 use Rattle.bound_members.proofs.Naming.{given_listed, given_more, missing_is, value_is}
 use Rattle.bound_operands.specs.Untaken.{ClosesUntaken, EachArgument, all_plain, is_plain, is_refused}
+use Rattle.bound_operands.specs.Indexing.{fits_count}
+use Rattle.bound_operands.proofs.Elements.{fits_given}
 use Rattle.bound_operands.proofs.ParamArrays.{missing_put, variant}
 
 -- ---- numbers of an element
@@ -77,6 +84,10 @@ places_are ss = at (all_plain ss) refl
     at : (b : Bool) → all_plain ss ≡ b → are_places (shapes_given ss) ≡ (b && not (length ss == 0))
     at true e = all_places ss e
     at false e = no_places ss e
+
+-- as many arguments as an array is declared with bounds
+pub fits_shapes : (bounds : ℕ) (ss : List Shape) → operands.fits_bounds bounds (shapes_given ss) ≡ ((bounds == 0) || (length ss == bounds))
+fits_shapes bounds ss = sym (fits_given bounds (shapes_given ss)) ∙ ap (fits_count bounds) (length-map ss shape_given)
 
 -- ---- one more argument
 
@@ -245,30 +256,31 @@ above_both : (before made : List bound.Expr) (st : List Piece) → above (map an
 above_both [] made st = refl
 above_both (e ∷ before) made st = above_both before made (an_expr e ∷ st)
 
-pub marked_ends : (t : Tables) (rule count : ℕ) (place : Place) (all : List bound.Expr) (ps below : List Piece) → count ≡ length all → ps ≡ above (map an_expr all) below
-    → ValueEnds t (broken_ending rule place count).kind (marked (record { rule = rule; place = place }) (exprs_of all)) ps below
-marked_ends t rule count place all ps below counted on_top n =
+pub marked_ends : (t : Tables) (rule count : ℕ) (place : Place) (of : DeclaredType) (all : List bound.Expr) (ps below : List Piece) → count ≡ length all → ps ≡ above (map an_expr all) below
+    → ValueEnds t (broken_ending rule place of count).kind (marked (record { rule = rule; place = place }) (exprs_of all)) ps below
+marked_ends t rule count place of all ps below counted on_top n =
     let A : Option (Exprs × List Piece) → List Piece = λ o. of_found (λ es. expr_of n (marked (record { rule = rule; place = place }) es)) o in
     ap (λ st. A (exprs_off count st no_exprs)) on_top ∙ ap (λ m. A (exprs_off m (above (map an_expr all) below) no_exprs)) counted ∙ ap A (exprs_are all below)
 
 -- what the arguments of an expression make
 refused_value : (env : Env) (t : Tables) (x : Untaken) (rule count : ℕ) (ss : List Shape) (b : Expr) (gs : List Given) (made : List bound.Expr) (ps between below : List Piece) → AreShaped ss gs → AllGiven (argument_of env type.variant) gs made
     → length made ≡ count → ps ≡ above (map an_expr made) between → UntakenStands env t x b between below → refused_rule t x.refuser (shapes_given ss) ≡ Some rule
-    → ValueStands t (broken_ending rule x.place (count + values_before x.refuser)) (indexed env (place_told b) (item_of env (place_told b) (callee env b (term_of env b))) gs) ps below
+    → ValueStands t (broken_ending rule x.place (refused_type x.refuser) (count + values_before x.refuser)) (indexed env (place_told b) (item_of env (place_told b) (callee env b (term_of env b))) gs) ps below
 refused_value env t x rule count ss b gs made ps between below shaped values counted on_top u breaks =
     let all = u.before ++ made in
     let place = place_told b in
     let found : refused_rule t x.refuser gs ≡ Some rule = sym (rule_shaped t x.refuser ss gs shaped) ∙ breaks in
-    let P : Place → Type 0 = λ p. ValueStands t (broken_ending rule p (count + values_before x.refuser)) (indexed env place (item_of env place (callee env b (term_of env b))) gs) ps below in
+    let of = refused_type x.refuser in
+    let P : Place → Type 0 = λ p. ValueStands t (broken_ending rule p of (count + values_before x.refuser)) (indexed env place (item_of env place (callee env b (term_of env b))) gs) ps below in
     subst P (sym u.place_is) (record {
       made = marked (record { rule = rule; place = place }) (exprs_of all);
-      is = u.wrong gs rule found ∙ ap (λ o. if_there (option_map (λ es. broken_value rule place (behind_values u.before es)) o)) (given_listed (argument_of env type.variant) gs made values)
-          ∙ ap (λ es. broken_value rule place es) (values_behind u.before made);
-      ends = marked_ends t rule (count + values_before x.refuser) place all ps below (omega (arith, counted, u.before_long, length-append u.before made)) (on_top ∙ ap (λ st. above (map an_expr made) st) u.on_top ∙ above_both u.before made below);
+      is = u.wrong gs rule found ∙ ap (λ o. if_there (option_map (λ es. broken_call rule place (declared_view of) (behind_values u.before es)) o)) (given_listed (argument_of env type.variant) gs made values)
+          ∙ ap (λ es. broken_call rule place (declared_view of) es) (values_behind u.before made) ∙ ap (λ v. a_value (marked (record { rule = rule; place = place }) (exprs_of all)) v) (sym (told_view of));
+      ends = marked_ends t rule (count + values_before x.refuser) place of all ps below (omega (arith, counted, u.before_long, length-append u.before made)) (on_top ∙ ap (λ st. above (map an_expr made) st) u.on_top ∙ above_both u.before made below);
     })
 
 abbrev pub closed : Untaken → (rule count : ℕ) → Bor Declarations → Tree
-closed x rule count known = record { place = x.place; name = None; dotted = None; term = term.Value (broken_ending rule x.place (count + values_before x.refuser)); declared = known }
+closed x rule count known = record { place = x.place; name = None; dotted = None; term = term.Value (broken_ending rule x.place (refused_type x.refuser) (count + values_before x.refuser)); declared = known }
 
 ends_above : (env : Env) (t : Tables) (x : Untaken) (rule count : ℕ) (known : Bor Declarations) → declared_in env.scope ≡ declarations_view known.now → (ss : List Shape) (left right : Token) (xs : List Item) (args : Args) (is : List nodes.Item) (ps : List Piece) (base : Base) → count ≡ length ss
     → refused_rule t x.refuser (shapes_given (reverse ss)) ≡ Some rule → Unshaped env t ss x xs args is ps base → Stands env t (item.Tree (closed x rule count known) ∷ xs) (behind_node (node.Index left right) (nodes.arguments args ∷ is)) ps base
@@ -277,7 +289,7 @@ ends_above env t x rule count known told ss left right xs args (nodes.arguments 
 ends_above env t x rule count known told ss left right xs args (nodes.tree b ∷ is) ps base counted breaks u =
     let s = u.stands in
     let v = refused_value env t x rule count (reverse ss) b (givens env args) u.made ps u.between s.0 u.shaped u.values (u.count_is ∙ sym counted) u.on_top s.1.0 breaks in
-    (s.0, (tree_ended env t (term.Value (broken_ending rule x.place (count + values_before x.refuser))) x.place known told b args left right ps s.0 s.1.0.place_is v, s.1.1))
+    (s.0, (tree_ended env t (term.Value (broken_ending rule x.place (refused_type x.refuser) (count + values_before x.refuser))) x.place known told b args left right ps s.0 s.1.0.place_is v, s.1.1))
 
 ends_stands : (env : Env) (t : Tables) (x : Untaken) (rule count : ℕ) (known : Bor Declarations) → declared_in env.scope ≡ declarations_view known.now → (ss : List Shape) (left right : Token) (xs : List Item) → count ≡ length ss → refused_rule t x.refuser (shapes_given (reverse ss)) ≡ Some rule → (is : List nodes.Item) (ps : List Piece) (base : Base)
     → Stands env t (with_shapes ss (item.Untaken x ∷ xs)) is ps base → Stands env t (item.Tree (closed x rule count known) ∷ xs) (behind_node (node.Index left right) is) ps base

@@ -11,7 +11,9 @@ use Rattle.bound_project.specs.declared.declared_type.DeclaredType.{DeclaredType
 use Rattle.bound_project.specs.Pieces.{Piece, Tables}
 use Rattle.bound_project.specs.Drafts.{Drafted}
 use Rattle.bound_members.specs.bound_calls.specs.bound_forms.specs.Terms.{Env, given_to}
-use Rattle.bound_members.specs.bound_calls.specs.bound_forms.specs.ExpressionsBound.{callee, givens, has_start, indexed, item_of, taken_as, takes_count, term_of, place_told}
+use Rattle.bound_members.specs.bound_calls.specs.bound_forms.specs.Operands.{has_start, takes_count, place_told}
+use Rattle.bound_members.specs.bound_calls.specs.bound_forms.specs.Members.{item_of}
+use Rattle.bound_members.specs.bound_calls.specs.bound_forms.specs.ExpressionsBound.{callee, givens, indexed, taken_as, term_of}
 use Rattle.bound_members.specs.bound_calls.specs.bound_forms.specs.ExpressionsBound as plain
 use Rattle.bound_members.specs.bound_calls.specs.declared.term.FunctionCall.{FunctionCall}
 use Rattle.bound_members.specs.bound_calls.specs.declared.term.Term.{Term}

@@ -19,7 +19,7 @@ use Rattle.bound_members.specs.bound_calls.specs.declared.term.Term.TheVariants 
 use Rattle.bound_members.specs.bound_calls.specs.declared.term.Tree.{Tree}
 use Rattle.bound_members.specs.bound_calls.specs.declared.term.Untaken.{Untaken}
 use Rattle.bound_members.specs.bound_calls.specs.Shapes.{shapes_given}
-use Rattle.bound_members.specs.bound_calls.specs.Standing.{refused_rule, values_before}
+use Rattle.bound_members.specs.bound_calls.specs.Standing.{refused_rule, refused_type, values_before}
 use Rattle.bound_members.specs.bound_calls.specs.Steps.{Goes}
 use Rattle.bound_members.specs.bound_calls.specs.Taking.{broken_ending}
 
@@ -46,7 +46,7 @@ all_plain ss = list_all is_plain ss
 pub record ClosesUntaken (known : Declarations) (d : Drafted) (x : Untaken) (ss : List Shape) (y : Tree) : Type 0 where
   pub rule : ℕ
   pub breaks : refused_rule d.tables x.refuser (shapes_given ss) ≡ Some rule
-  pub is : y ≡ record { place = x.place; name = None; dotted = None; term = term.Value (broken_ending rule x.place (length ss + values_before x.refuser)); declared = y.declared }
+  pub is : y ≡ record { place = x.place; name = None; dotted = None; term = term.Value (broken_ending rule x.place (refused_type x.refuser) (length ss + values_before x.refuser)); declared = y.declared }
   pub known_is : known ≡ declarations_view y.declared.now
 
 -- arguments end that aren't taken, or there are none

@@ -1,10 +1,9 @@
 //! Functions of the library: what their names are, and calls of them.
 
 ghost use Rattle.std.specs.Prelude.{◌≡◌, ◌==◌, ◌&&◌, ◌||◌, not, IfOk, OnOk};
-ghost use Rattle.vba_lib.specs.Library.{declared_of};
 ghost use Rattle.bound_project.specs.DraftView.{draft_view};
 ghost use Rattle.bound_project.specs.Drafts.{Drafted};
-ghost use Rattle.bound_project.specs.View.{declared_view};
+ghost use Rattle.bound_members.specs.bound_calls.specs.bound_forms.specs.Operands as operands;
 ghost use Rattle.bound_members.specs.bound_calls.specs.bound_forms.specs.ExpressionsBound as bound;
 ghost use Rattle.bound_members.specs.bound_calls.specs.bound_forms.specs.Terms as plain;
 ghost use Rattle.bound_members.specs.bound_calls.specs.declared.term.Item.TheVariants as item;
@@ -13,16 +12,15 @@ ghost use Rattle.vba_lib.specs.declared.function.LibraryFunction.TheVariants as 
 ghost use Rattle.bound_members.specs.bound_calls.specs.Indexing.{AddsArgument, AddsMissing, OpensTerm};
 ghost use Rattle.bound_members.specs.bound_calls.specs.Standing.{TermNamed};
 
-use crate::types::element_type;
 use bound_members::bound_calls::bound_declarations::NotYet;
 use bound_members::bound_calls::{
-    Ending, Function, FunctionCall, Term, Tree, mark_given, nowhere, push_given, push_if_any,
-    push_node, push_operand, sum,
+    Ending, Function, FunctionCall, Term, Tree, answer_type, broken_ending, has_start, mark_given,
+    nowhere, push_given, push_if_any, push_node, push_operand, sum, takes_count,
 };
 use bound_project::{DeclaredType, Draft, ElementType, NodeKind};
 use std::alloc::Global;
-use vba_base::{NoMemory, OrMemory, Refusal};
-use vba_lib::{LibraryFunction, arity, declared_type};
+use vba_base::OrMemory;
+use vba_lib::{LibraryFunction, arity};
 
 /// A function whose arguments are read from now on.
 pub fn open_function<'a>(tree: Tree<'a>, function: Function) -> FunctionCall
@@ -165,7 +163,7 @@ pub fn add_named_value<'a>(
 
 /// Does a function need the argument with a number, from 0?
 fn needs(function: LibraryFunction, number: u32) -> bool
-    ensures { result ≡ bound.needs function number }
+    ensures { result ≡ operands.needs function number }
 {
     match function {
         LibraryFunction::InStr => number == 1 || number == 2,
@@ -175,7 +173,7 @@ fn needs(function: LibraryFunction, number: u32) -> bool
 
 /// Is a call wrong whose next argument isn't written?
 fn is_wrong_without(call: FunctionCall) -> bool
-    ensures { result ≡ (call.is_wrong || bound.needs call.function.function call.count) }
+    ensures { result ≡ (call.is_wrong || operands.needs call.function.function call.count) }
 {
     call.is_wrong || needs(call.function.function, call.count)
 }
@@ -207,24 +205,6 @@ pub fn add_missing_value(
     })
 }
 
-/// Does a function take so many arguments? 255 is no limit.
-fn takes_count(function: LibraryFunction, count: u32) -> bool
-    ensures { result ≡ bound.takes_count function count }
-{
-    let (least, greatest) = arity(function);
-    u32::from(least) <= count && (greatest == 255 || count <= u32::from(greatest))
-}
-
-/// Has InStr, where it has no start, its first argument?
-fn has_start(function: LibraryFunction, count: u32, first: bool) -> bool
-    ensures { result ≡ bound.has_start function count first }
-{
-    match function {
-        LibraryFunction::InStr => first || 3 <= count,
-        _ => true,
-    }
-}
-
 /// Does a function take the arguments that it is called with?
 fn takes(call: FunctionCall) -> bool
     ensures { result ≡ call_takes call }
@@ -234,42 +214,15 @@ fn takes(call: FunctionCall) -> bool
         && (takes_count(function, call.count) && has_start(function, call.count, call.is_started))
 }
 
-/// The declared type of a use.
-fn answer_type(
-    alloc: Global,
-    function: LibraryFunction,
-    is_text_form: bool,
-) -> Result<DeclaredType, NoMemory>
-    ensures { IfOk result (λ of. declared_view of ≡ declared_of function is_text_form) }
-{
-    if is_text_form {
-        return Ok(DeclaredType::Plain(ElementType::Text));
-    }
-    match function {
-        LibraryFunction::Split => Ok(DeclaredType::ArrayOf(ElementType::Text)),
-        _ => {
-            let of = declared_type(alloc, function, false)?;
-            Ok(DeclaredType::Plain(element_type(of)?))
-        }
-    }
-}
-
 /// What a function gives of its arguments; where it doesn't take them they are marked as what breaks a static rule.
 pub fn close_function<'a>(alloc: Global, call: FunctionCall) -> Result<Term<'a>, OrMemory<NotYet>>
     ensures { IfOk result (λ term. EndsFunction call term) }
 {
     let function = call.function;
-    if !takes(call) {
-        let place = call.place;
-        return Ok(Term::Value(Ending {
-            kind: NodeKind::Marked {
-                broken: Refusal { rule: 25, place },
-                values: call.count,
-            },
-            of: DeclaredType::Plain(ElementType::Variant),
-        }));
-    }
     let of = answer_type(alloc, function.function, function.is_text_form)?;
+    if !takes(call) {
+        return Ok(Term::Value(broken_ending(25, call.place, of, call.count)));
+    }
     Ok(Term::Value(Ending {
         kind: NodeKind::Library {
             function: function.function,

@@ -1,19 +1,18 @@
 //! What stands before brackets, and what the numbers in them make of it: elements of places and of values, and what the run
 //! says the arguments lead to.
 
-ghost use Rattle.std.specs.Prelude.{◌≡◌, ◌<◌, false, true, Bool, IfOk, IfSome, option_map};
+ghost use Rattle.std.specs.Prelude.{◌≡◌, ◌<◌, Bool, false, true, IfOk, IfSome, option_map};
 ghost use Rattle.bound_project.specs.DraftView.{draft_view};
 ghost use Rattle.bound_project.specs.Drafts.{Drafted, NodeNamed};
 ghost use Rattle.bound_project.specs.View.{declarations_view, declared_view};
-ghost use Rattle.bound_members.specs.bound_calls.specs.bound_forms.specs.ExpressionsBound.{element_type};
+ghost use Rattle.bound_members.specs.bound_calls.specs.bound_forms.specs.Operands.{element_type};
 ghost use Rattle.bound_members.specs.bound_calls.specs.bound_forms.specs.Terms as plain;
 ghost use Rattle.bound_members.specs.bound_calls.specs.bound_declarations.specs.constant_values.specs.declared_names.specs.binder.specs.Classes as classes;
 ghost use Rattle.bound_members.specs.bound_calls.specs.Calls.{PushesReceiver};
 ghost use Rattle.bound_members.specs.bound_calls.specs.Indexing.{AddsArgument, AddsMissing, Closes, EndsIndexed, OpensTerm, PushesTarget, is_part};
 ghost use Rattle.bound_members.specs.bound_calls.specs.Standing.{ItemNamed, TermNamed};
 ghost use Rattle.bound_members.specs.bound_calls.specs.References.{IsFoundLate};
-ghost use Rattle.bound_members.specs.bound_calls.specs.Taking.{read_kind};
-ghost use Rattle.bound_operands.specs.Indexing.{HasElements, PushesAlong, PushesAsPlace, PushesWhole, is_along, is_led};
+ghost use Rattle.bound_operands.specs.Indexing.{HasElements, OpensBehind, PushesAlong, PushesAsPlace, PushesWhole, fits_count, is_along, is_led, place_element, place_term, read_ending};
 
 use crate::call_steps::{passed_in, with_passed};
 use crate::functions::{add_missing_value, add_value, close_function};
@@ -61,6 +60,8 @@ fn is_part(kind: NodeKind) -> bool
         NodeKind::Field { .. } => true,
         NodeKind::KeptPlace { .. } => true,
         NodeKind::ObjectField { .. } => true,
+        NodeKind::NewVariable { .. } => true,
+        NodeKind::AsNew { .. } => true,
         _ => false,
     }
 }
@@ -98,24 +99,41 @@ fn push_target(
     }
 }
 
-/// A place whose arguments in brackets, which lead on as the run says, are read from now on.
-fn open_along<'a>(
-    draft: &mut Draft,
-    tree: Tree<'a>,
-    kind: NodeKind,
-    of: DeclaredType,
-    lends: bool,
-) -> Result<Indexed, NoMemory>
-    requires { NodeNamed (draft_view draft.old).tables kind }
-    ensures { IfOk result (λ indexed. (env : plain.Env) (makes : Bool) → IsFoundLate (classes.has_class env.scope.spaces) (draft_view draft.old).tables (record { kind = read_kind makes; of = of }) true
-        → (bounded : Bool) → OpensTerm env tree.entry (Term.Place kind of bounded lends makes) (draft_view draft.old) (draft_view draft.new) (Item.Indexed indexed)) }
+/// A place before brackets: its last node, which isn't pushed, its type, with how many bounds it is declared as an array (0
+/// without any), whether it is lent to a ByRef parameter, and whether an object is made there, or in an element of it.
+#[derive(Clone, Copy)]
+pub struct WholePlace {
+    pub kind: NodeKind,
+    pub of: DeclaredType,
+    pub bounds: u32,
+    pub lends: bool,
+    pub makes: bool,
+}
+
+/// What a place has, but for the last node.
+fn read_ending(at: WholePlace) -> Ending
+    ensures { result ≡ read_ending at }
 {
-    push_node(draft, kind, of, tree.place)?;
+    Ending {
+        kind: read_kind(at.makes),
+        of: at.of,
+    }
+}
+
+/// A place whose arguments in brackets, which lead on as the run says, are read from now on.
+fn open_along<'a>(draft: &mut Draft, tree: Tree<'a>, at: WholePlace) -> Result<Indexed, NoMemory>
+    requires { NodeNamed (draft_view draft.old).tables at.kind }
+    ensures { IfOk result (λ indexed. (env : plain.Env) → IsFoundLate (classes.has_class env.scope.spaces) (draft_view draft.old).tables (read_ending at) true
+        → OpensTerm env tree.entry (place_term at) (draft_view draft.old) (draft_view draft.new) (Item.Indexed indexed)) }
+{
+    push_node(draft, at.kind, at.of, tree.place)?;
     Ok(Indexed {
         place: tree.place,
         target: Target::PlaceAlong,
         of: DeclaredType::Plain(ElementType::Variant),
-        lends,
+        lends: at.lends,
+        makes: at.makes,
+        bounds: 0,
         count: 0,
     })
 }
@@ -124,28 +142,23 @@ fn open_along<'a>(
 fn open_element<'a>(
     draft: &mut Draft,
     tree: Tree<'a>,
-    kind: NodeKind,
-    of: DeclaredType,
-    lends: bool,
-    makes: bool,
+    at: WholePlace,
     has_class: bool,
 ) -> Result<Indexed, OrMemory<NotYet>>
-    requires { NodeNamed (draft_view draft.old).tables kind }
-    ensures { IfOk result (λ indexed. (env : plain.Env) → classes.has_class env.scope.spaces ≡ has_class → (bounded : Bool) → OpensTerm env tree.entry (Term.Place kind of bounded lends makes) (draft_view draft.old) (draft_view draft.new) (Item.Indexed indexed)) }
+    requires { NodeNamed (draft_view draft.old).tables at.kind }
+    ensures { IfOk result (λ indexed. (env : plain.Env) → classes.has_class env.scope.spaces ≡ has_class → OpensTerm env tree.entry (place_term at) (draft_view draft.old) (draft_view draft.new) (Item.Indexed indexed)) }
 {
-    let read = Ending {
-        kind: read_kind(makes),
-        of,
-    };
-    let Some(element) = indexed_type(has_class, draft, read) else {
+    let Some(element) = indexed_type(has_class, draft, read_ending(at)) else {
         return Err(OrMemory::Fault(NotYet));
     };
-    let target = push_target(draft, kind, of, tree.place)?;
+    let target = push_target(draft, at.kind, at.of, tree.place)?;
     Ok(Indexed {
         place: tree.place,
         target,
         of: element,
-        lends,
+        lends: at.lends,
+        makes: at.makes,
+        bounds: at.bounds,
         count: 0,
     })
 }
@@ -154,24 +167,17 @@ fn open_element<'a>(
 pub fn open_place<'a>(
     draft: &mut Draft,
     tree: Tree<'a>,
-    kind: NodeKind,
-    of: DeclaredType,
-    lends: bool,
-    makes: bool,
+    at: WholePlace,
     has_class: bool,
 ) -> Result<Indexed, OrMemory<NotYet>>
-    requires { NodeNamed (draft_view draft.old).tables kind }
-    ensures { IfOk result (λ indexed. (env : plain.Env) → classes.has_class env.scope.spaces ≡ has_class → (bounded : Bool) → OpensTerm env tree.entry (Term.Place kind of bounded lends makes) (draft_view draft.old) (draft_view draft.new) (Item.Indexed indexed)) }
+    requires { NodeNamed (draft_view draft.old).tables at.kind }
+    ensures { IfOk result (λ indexed. (env : plain.Env) → classes.has_class env.scope.spaces ≡ has_class → OpensTerm env tree.entry (place_term at) (draft_view draft.old) (draft_view draft.new) (Item.Indexed indexed)) }
 {
-    let read = Ending {
-        kind: read_kind(makes),
-        of,
-    };
-    if is_known_late(has_class, draft, read) {
-        let indexed = open_along(draft, tree, kind, of, lends)?;
+    if is_known_late(has_class, draft, read_ending(at)) {
+        let indexed = open_along(draft, tree, at)?;
         return Ok(indexed);
     }
-    open_element(draft, tree, kind, of, lends, makes, has_class)
+    open_element(draft, tree, at, has_class)
 }
 
 /// Pushes a value that begins at a place, and in which arguments lead on as the run says.
@@ -185,6 +191,8 @@ fn push_along(draft: &mut Draft, ending: Ending, place: Place) -> Result<Indexed
         target: Target::ValueAlong,
         of: DeclaredType::Plain(ElementType::Variant),
         lends: false,
+        makes: false,
+        bounds: 0,
         count: 0,
     })
 }
@@ -202,6 +210,8 @@ pub fn push_as_place(draft: &mut Draft, ending: Ending, place: Place) -> Result<
         target: Target::ValueAsPlace,
         of: variant,
         lends: false,
+        makes: false,
+        bounds: 0,
         count: 0,
     })
 }
@@ -225,6 +235,8 @@ fn push_element(
         target: Target::Value,
         of: element,
         lends: false,
+        makes: false,
+        bounds: 0,
         count: 0,
     })
 }
@@ -246,7 +258,7 @@ pub fn push_whole(
     push_element(draft, ending, place, has_class)
 }
 
-/// A value whose numbers in brackets are read from now on.
+/// A value whose numbers or other arguments in brackets are read from now on: behind it, or behind a property that gave it.
 pub fn open_value<'a>(
     draft: &mut Draft,
     tree: Tree<'a>,
@@ -254,7 +266,7 @@ pub fn open_value<'a>(
     has_class: bool,
 ) -> Result<Indexed, OrMemory<NotYet>>
     requires { NodeNamed (draft_view draft.old).tables ending.kind }
-    ensures { IfOk result (λ indexed. (env : plain.Env) → classes.has_class env.scope.spaces ≡ has_class → OpensTerm env tree.entry (Term.Value ending) (draft_view draft.old) (draft_view draft.new) (Item.Indexed indexed)) }
+    ensures { IfOk result (λ indexed. (of_property : Bool) (env : plain.Env) → classes.has_class env.scope.spaces ≡ has_class → OpensBehind of_property env tree.entry (Term.Value ending) (draft_view draft.old) (draft_view draft.new) (Item.Indexed indexed)) }
 {
     push_whole(draft, ending, tree.place, has_class)
 }
@@ -455,39 +467,48 @@ pub fn skip_argument<'a>(
     }
 }
 
+/// Are as many numbers as an array is declared with bounds, where it is declared with some?
+fn fits_count(bounds: u32, count: u32) -> bool
+    ensures { result ≡ fits_count bounds count }
+{
+    bounds == 0 || count == bounds
+}
+
+/// An element of a place, by its last node.
+fn place_element<'a>(indexed: Indexed, kind: NodeKind) -> Term<'a>
+    ensures { result ≡ place_element indexed kind }
+{
+    Term::Place {
+        kind,
+        of: indexed.of,
+        bounds: 0,
+        lends: indexed.lends,
+        makes: indexed.makes,
+    }
+}
+
 /// An element, by what is indexed, behind so many numbers or other arguments. One that is assigned to ends otherwise.
 fn element<'a>(indexed: Indexed) -> Result<Term<'a>, OrMemory<NotYet>>
-    requires { 0 < indexed.count }
+    requires some { 0 < indexed.count }
+    requires fits { fits_count indexed.bounds indexed.count ≡ true }
     ensures { IfOk result (λ term. EndsIndexed indexed term) }
 {
     let numbers = indexed.count;
     let of = indexed.of;
     match indexed.target {
-        Target::Variable(variable) => Ok(Term::Place {
-            kind: NodeKind::Item { variable, numbers },
-            of,
-            is_bounded: false,
-            lends: indexed.lends,
-            makes: false,
-        }),
-        Target::Place => Ok(Term::Place {
-            kind: NodeKind::Element { numbers },
-            of,
-            is_bounded: false,
-            lends: indexed.lends,
-            makes: false,
-        }),
+        Target::Variable(variable) => Ok(place_element(
+            indexed,
+            NodeKind::Item { variable, numbers },
+        )),
+        Target::Place => Ok(place_element(indexed, NodeKind::Element { numbers })),
         Target::Value => Ok(Term::Value(Ending {
             kind: NodeKind::ElementValue { numbers },
             of,
         })),
-        Target::PlaceAlong => Ok(Term::Place {
-            kind: NodeKind::ElementAlong { arguments: numbers },
-            of,
-            is_bounded: false,
-            lends: indexed.lends,
-            makes: false,
-        }),
+        Target::PlaceAlong => Ok(place_element(
+            indexed,
+            NodeKind::ElementAlong { arguments: numbers },
+        )),
         Target::ValueAlong => Ok(Term::Value(Ending {
             kind: NodeKind::ItemAlong { arguments: numbers },
             of,
@@ -499,11 +520,11 @@ fn element<'a>(indexed: Indexed) -> Result<Term<'a>, OrMemory<NotYet>>
     }
 }
 
-/// The element that numbers give; without a number there is none.
+/// The element that numbers give, as many as an array is declared with bounds; without a number there is none.
 fn close_indexed<'a>(indexed: Indexed) -> Result<Term<'a>, OrMemory<NotYet>>
     ensures { IfOk result (λ term. EndsIndexed indexed term) }
 {
-    if indexed.count == 0 {
+    if indexed.count == 0 || !fits_count(indexed.bounds, indexed.count) {
         return Err(OrMemory::Fault(NotYet));
     }
     element(indexed)

@@ -1,6 +1,6 @@
 //! Arguments in brackets behind what is declared as of a class: they lead to what its default member says, or break a rule.
 
-ghost use Rattle.std.specs.Prelude.{◌≡◌, ◌<◌, Bool, IfOk, OnOk, Some};
+ghost use Rattle.std.specs.Prelude.{◌≡◌, ◌<◌, ℕ, Bool, IfOk, OnOk, Some};
 ghost use Rattle.bound_project.specs.DraftView.{draft_view};
 ghost use Rattle.bound_project.specs.Drafts.{NodeNamed};
 ghost use Rattle.bound_project.specs.View.{declarations_view, declared_view};
@@ -10,7 +10,7 @@ ghost use Rattle.bound_members.specs.bound_calls.specs.bound_forms.specs.Terms a
 ghost use Rattle.bound_members.specs.bound_calls.specs.declared.term.Target.TheVariants as target_kind;
 ghost use Rattle.bound_members.specs.bound_calls.specs.Indexing.{EndsIndexed, OpensTerm};
 ghost use Rattle.bound_members.specs.bound_calls.specs.Standing.{TermNamed};
-ghost use Rattle.bound_operands.specs.Indexing.{is_led};
+ghost use Rattle.bound_operands.specs.Indexing.{OpensBehind, is_led};
 ghost use Rattle.bound_operands.specs.Leading.{BeginsLed, Leads, PushesLeading, PushesLed, PushesLedPlace, RefusesLed, gives_class};
 
 use crate::functions::{Taking, push_marked};
@@ -80,9 +80,9 @@ pub fn place_led<'a>(indexed: Indexed, count: u32) -> Result<Term<'a>, OrMemory<
     Ok(Term::Place {
         kind: NodeKind::ElementAlong { arguments },
         of: indexed.of,
-        is_bounded: false,
+        bounds: 0,
         lends: indexed.lends,
-        makes: false,
+        makes: indexed.makes,
     })
 }
 
@@ -118,6 +118,8 @@ fn led_item<'a>(
             target: Target::ValueLed(count),
             of,
             lends: false,
+            makes: false,
+            bounds: 0,
             count: 0,
         })),
         Known::Breaks(rule) => Ok(Item::Untaken(Untaken {
@@ -170,11 +172,14 @@ pub fn led_as_place(
         target: Target::LedAsPlace(count),
         of,
         lends: false,
+        makes: false,
+        bounds: 0,
         count: 0,
     })
 }
 
-/// A value of a class whose arguments in brackets, so many, are read from now on.
+/// A value of a class whose arguments in brackets, so many, are read from now on: behind it, or behind a property that gave
+/// it.
 pub fn open_led_value<'a>(
     draft: &mut Draft,
     declared: &Declarations,
@@ -185,7 +190,7 @@ pub fn open_led_value<'a>(
 ) -> Result<Item<'a>, OrMemory<NotYet>>
     requires named { NodeNamed (draft_view draft.old).tables ending.kind }
     requires class { classes.class_in (declared_view ending.of) ≡ Some class }
-    ensures { IfOk result (λ item. (env : plain.Env) → declared_in env.scope ≡ declarations_view declared.now → OpensTerm env tree.entry (Term.Value ending) (draft_view draft.old) (draft_view draft.new) item) }
+    ensures { IfOk result (λ item. (of_property : Bool) (env : plain.Env) → declared_in env.scope ≡ declarations_view declared.now → OpensBehind of_property env tree.entry (Term.Value ending) (draft_view draft.old) (draft_view draft.new) item) }
 {
     push_led(draft, declared, ending, class, tree.place, count)
 }
@@ -196,11 +201,12 @@ fn begin_led(
     at: Ending,
     place: Place,
     lends: bool,
+    makes: bool,
     count: u32,
     of: DeclaredType,
 ) -> Result<Indexed, OrMemory<NotYet>>
     requires { NodeNamed (draft_view draft.old).tables at.kind }
-    ensures { IfOk result (λ indexed. BeginsLed at place lends count of (draft_view draft.old) (draft_view draft.new) indexed) }
+    ensures { IfOk result (λ indexed. BeginsLed at place lends makes count of (draft_view draft.old) (draft_view draft.new) indexed) }
 {
     push_node(draft, at.kind, at.of, place)?;
     Ok(Indexed {
@@ -208,6 +214,8 @@ fn begin_led(
         target: Target::PlaceLed(count),
         of,
         lends,
+        makes,
+        bounds: 0,
         count: 0,
     })
 }
@@ -245,12 +253,12 @@ pub fn open_led_place<'a>(
 ) -> Result<Item<'a>, OrMemory<NotYet>>
     requires named { NodeNamed (draft_view draft.old).tables at.kind }
     requires class { classes.class_in (declared_view at.of) ≡ Some class }
-    ensures { IfOk result (λ item. (env : plain.Env) → declared_in env.scope ≡ declarations_view declared.now → (bounded : Bool)
-        → OpensTerm env tree.entry (Term.Place at.kind at.of bounded lends makes) (draft_view draft.old) (draft_view draft.new) item) }
+    ensures { IfOk result (λ item. (env : plain.Env) → declared_in env.scope ≡ declarations_view declared.now → (bounds : ℕ)
+        → OpensTerm env tree.entry (Term.Place at.kind at.of bounds lends makes) (draft_view draft.old) (draft_view draft.new) item) }
 {
     match class_led(declared, class, count) {
         Known::Type(of) => {
-            let indexed = begin_led(draft, at, tree.place, lends, count, of)?;
+            let indexed = begin_led(draft, at, tree.place, lends, makes, count, of)?;
             Ok(Item::Indexed(indexed))
         }
         Known::Breaks(rule) => {

@@ -16,7 +16,7 @@ mod untaken;
 pub use call_steps::{step_missing_argument, step_plain_argument};
 pub use functions::open_function;
 pub use gathering::{gathered_ending, push_gathered, take_gathered};
-pub use indexing::{open_call, open_place, open_value, push_as_place, push_whole};
+pub use indexing::{WholePlace, open_call, open_place, open_value, push_as_place, push_whole};
 pub use leading::{is_led, led_as_place, open_led_place, open_led_value, push_led};
 pub use named::{step_index, step_named_argument};
 pub use step::{step_binary, step_literal, step_parenthesised, step_unary};

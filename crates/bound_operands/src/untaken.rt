@@ -7,19 +7,20 @@ ghost use Rattle.vba_expression.specs.declared.node.ExpressionNode.TheVariants a
 ghost use Rattle.vba_expression.specs.Nodes.{behind_node};
 ghost use Rattle.bound_project.specs.DraftView.{draft_view};
 ghost use Rattle.bound_project.specs.View.{declarations_view, declared_view};
+ghost use Rattle.bound_members.specs.bound_calls.specs.bound_forms.specs.Operands as operands;
 ghost use Rattle.bound_members.specs.bound_calls.specs.bound_forms.specs.ExpressionsBound as bound;
 ghost use Rattle.bound_members.specs.bound_calls.specs.bound_forms.specs.ClassDefaults.{declared_in};
 ghost use Rattle.bound_members.specs.bound_calls.specs.bound_forms.specs.Terms as plain;
 ghost use Rattle.bound_members.specs.bound_calls.specs.Shapes.{shapes_given};
-ghost use Rattle.bound_members.specs.bound_calls.specs.Standing.{AllNamed, refused_rule, values_before};
+ghost use Rattle.bound_members.specs.bound_calls.specs.Standing.{AllNamed, refused_rule, refused_type, values_before};
 ghost use Rattle.bound_members.specs.bound_calls.specs.Steps.{Goes};
 ghost use Rattle.bound_operands.specs.Untaken.{ClosesUntaken, EachArgument, EndsRefused, all_plain, is_plain, is_refused};
 
 use bound_members::bound_calls::bound_declarations::NotYet;
 use bound_members::bound_calls::bound_declarations::constant_values::declared_names::is_object;
 use bound_members::bound_calls::{
-    Item, Refuser, Shape, Term, Tree, Untaken, broken_ending, nowhere, push_argument, push_node,
-    put_item, sum, take_item, take_shapes, takes,
+    HostMember, Item, Refuser, Shape, Term, Tree, Untaken, broken_ending, nowhere, push_argument,
+    push_node, put_item, sum, take_item, take_shapes, takes,
 };
 use bound_members::{arguments_rule, member_takes};
 use bound_project::{Declarations, DeclaredType, Draft, ElementType, NodeKind};
@@ -49,20 +50,56 @@ fn all_plain<'a>(shapes: &[Shape<'a>]) -> bool
 #[tactic(auto, using(crate::proofs::Untaking::places_are))]
 /// Are arguments numbers of an element: some, of which none has a name or isn't written?
 pub fn are_places<'a>(shapes: &[Shape<'a>]) -> bool
-    ensures { result ≡ bound.are_places (shapes_given shapes.now) }
+    ensures { result ≡ operands.are_places (shapes_given shapes.now) }
 {
     all_plain(shapes) && !shapes.is_empty()
 }
 
-/// May a value of a type be indexed by these arguments?
-fn may_index<'a>(of: DeclaredType, shapes: &[Shape<'a>]) -> bool
-    ensures { result ≡ bound.may_index (declared_view of) (shapes_given shapes.now) }
+#[tactic(auto, using(crate::proofs::Untaking::fits_shapes))]
+/// Are these as many arguments as an array is declared with bounds, where it is declared with some?
+fn fits_bounds<'a>(bounds: u32, shapes: &[Shape<'a>]) -> bool
+    ensures { result ≡ operands.fits_bounds bounds (shapes_given shapes.now) }
+{
+    bounds == 0 || shapes.len() == bounds as usize
+}
+
+/// May a value of a type, or of an array that is declared with so many bounds, be indexed by these arguments?
+fn may_index<'a>(of: DeclaredType, bounds: u32, shapes: &[Shape<'a>]) -> bool
+    ensures { result ≡ bound.may_index (declared_view of) bounds (shapes_given shapes.now) }
 {
     match of {
-        DeclaredType::ArrayOf(_) => are_places(shapes),
+        DeclaredType::ArrayOf(_) => are_places(shapes) && fits_bounds(bounds, shapes),
         DeclaredType::Plain(ElementType::Variant) => true,
         DeclaredType::Plain(_) => is_object(of),
     }
+}
+
+/// The rule that these arguments of a member break.
+fn member_rule<'a>(
+    draft: &Draft,
+    member: HostMember,
+    shapes: &[Shape<'a>],
+) -> Result<Option<u8>, NoMemory>
+    ensures { IfOk result (λ rule. rule ≡ refused_rule (draft_view draft.now).tables (Refuser.Member member) (shapes_given shapes.now)) }
+{
+    if member_takes(draft, member, shapes)? {
+        return Ok(None);
+    }
+    Ok(arguments_rule(member))
+}
+
+/// The same where there are some.
+fn rule_behind<'a>(
+    draft: &Draft,
+    member: HostMember,
+    shapes: &[Shape<'a>],
+) -> Result<Option<u8>, NoMemory>
+    ensures { IfOk result (λ rule. rule ≡ refused_rule (draft_view draft.now).tables (Refuser.Behind member) (shapes_given shapes.now)) }
+{
+    if shapes.is_empty() {
+        return Ok(None);
+    }
+    member_rule(draft, member, shapes)
 }
 
 /// The rule that these arguments break; none where they are taken, or where that isn't known.
@@ -75,16 +112,12 @@ pub fn refused_rule<'a>(
     ensures { IfOk result (λ rule. rule ≡ refused_rule (draft_view draft.now).tables refuser.entry (shapes_given shapes.now)) }
 {
     let takes = match refuser {
-        Refuser::Procedure(parameters) => takes(alloc, parameters, shapes)?,
-        Refuser::Value(of) => may_index(of, shapes),
-        Refuser::Called(of) => shapes.is_empty() || may_index(of, shapes),
+        Refuser::Procedure { parameters, .. } => takes(alloc, parameters, shapes)?,
+        Refuser::Value { of, bounds } => may_index(of, bounds, shapes),
+        Refuser::Called(of) => shapes.is_empty() || may_index(of, 0, shapes),
         Refuser::Bare => shapes.is_empty(),
-        Refuser::Member(member) => {
-            if member_takes(draft, member, shapes)? {
-                return Ok(None);
-            }
-            return Ok(arguments_rule(member));
-        }
+        Refuser::Member(member) => return member_rule(draft, member, shapes),
+        Refuser::Behind(member) => return rule_behind(draft, member, shapes),
         Refuser::Led { rule, count } => return led_rule(rule, count, shapes),
     };
     Ok(if takes { None } else { Some(25) })
@@ -99,7 +132,7 @@ fn rule_if(one: bool, other: bool, rule: u8) -> Option<u8>
 
 /// The rule that so many arguments break which are all written, without names; none where these are others.
 fn led_rule<'a>(rule: u8, count: u32, shapes: &[Shape<'a>]) -> Result<Option<u8>, NoMemory>
-    ensures { IfOk result (λ found. found ≡ (if bound.are_places (shapes_given shapes.now) && (length (shapes_given shapes.now) == count) then Some rule else None)) }
+    ensures { IfOk result (λ found. found ≡ (if operands.are_places (shapes_given shapes.now) && (length (shapes_given shapes.now) == count) then Some rule else None)) }
 {
     let long = count_shapes(shapes)?;
     let are_numbers = are_places(shapes);
@@ -182,11 +215,25 @@ fn values_before<'a>(refuser: Refuser<'a>) -> u32
     ensures { result ≡ values_before refuser.entry }
 {
     match refuser {
-        Refuser::Value(_) => 1,
+        Refuser::Procedure { values, .. } => values,
+        Refuser::Value { .. } => 1,
         Refuser::Called(_) => 1,
         Refuser::Member(_) => 1,
+        Refuser::Behind(_) => 1,
         Refuser::Led { .. } => 1,
-        _ => 0,
+        Refuser::Bare => 0,
+    }
+}
+
+/// The declared type of what doesn't take its arguments.
+fn refused_type<'a>(refuser: Refuser<'a>) -> DeclaredType
+    ensures { result ≡ refused_type refuser.entry }
+{
+    match refuser {
+        Refuser::Procedure { of, .. } => of,
+        Refuser::Member(member) => member.of,
+        Refuser::Behind(member) => member.of,
+        _ => DeclaredType::Plain(ElementType::Variant),
     }
 }
 
@@ -205,11 +252,12 @@ fn close_untaken<'a>(
     };
     let count = count_shapes(shapes)?;
     let values = sum(count, values_before(untaken.refuser))?;
+    let of = refused_type(untaken.refuser);
     Ok(Tree {
         place: untaken.place,
         name: None,
         dotted: None,
-        term: Term::Value(broken_ending(rule, untaken.place, values)),
+        term: Term::Value(broken_ending(rule, untaken.place, of, values)),
         declared,
     })
 }

@@ -1,6 +1,7 @@
 pub mod Expressions
 pub mod Statements
 pub mod Project
+pub mod Parameters
 pub mod Whole
 pub mod View
 pub mod Pieces

@@ -143,6 +143,11 @@ abbrev pub class_at : Declarations → ℕ → Class
 class_at d zero = no_class
 class_at d (suc c) = slice_index_or d.classes c no_class
 
+-- the same where there is one
+abbrev pub class_numbered : Declarations → ℕ → Option Class
+class_numbered d zero = None
+class_numbered d (suc c) = slice_get d.classes c
+
 abbrev pub statements_or : Option Body → List Statement
 statements_or None = []
 statements_or (Some b) = b.statements

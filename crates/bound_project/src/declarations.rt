@@ -82,6 +82,9 @@ pub enum Member {
     },
 }
 
+/// How many default members in a row may pass arguments, or a value, on to what they give.
+pub const MOST_PASSED: u32 = 8;
+
 /// A public member, by its folded name.
 #[derive(Drop)]
 pub struct NamedMember {

@@ -7,14 +7,16 @@ mod declared_type;
 mod draft;
 mod laws;
 mod node;
+mod numbered;
+mod parameters;
 mod project;
 mod statement;
 mod too_long;
 mod variable;
 
 pub use declarations::{
-    Class, Declaration, Declarations, DeclaredEvent, Handler, Member, Module, NamedMember,
-    Parameter, Procedure, ProcedureKind, Spelled, UserType,
+    Class, Declaration, Declarations, DeclaredEvent, Handler, MOST_PASSED, Member, Module,
+    NamedMember, Parameter, Procedure, ProcedureKind, Spelled, UserType,
 };
 pub use declared_type::{DeclaredType, ElementType};
 pub use draft::Draft;
@@ -27,6 +29,11 @@ pub use laws::{
     statements_past_the_end_are_next,
 };
 pub use node::{ArgumentNames, LateName, LateUse, Node, NodeKind};
+pub use numbered::{
+    class_numbered, default_of, enumerator_of, events_of, fields_of, handlers_of, initialize_of,
+    members_of, parameters_of, result_of, terminate_of, with_events_of,
+};
+pub use parameters::{any_must, has_parameters, last_type, must_be_given, without_last};
 pub use project::{Block, Body, Project};
 pub use statement::{ActionKind, Handling, StatementNode};
 pub use too_long::TooLong;

@@ -1,6 +1,5 @@
 pub mod Beginnings
 pub mod LackingItems
-pub mod LedProperties
 pub mod IndexedProperties
 pub mod Refused
 pub mod TypesAsked

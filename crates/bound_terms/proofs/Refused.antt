@@ -11,6 +11,8 @@ use Rattle.vba_tree.specs.declared.procedure.ProcedureWords.TheVariants as words
 use Rattle.vba_expression.specs.Tree.{Expr}
 use Rattle.bound_project.specs.declared.node.NodeKind.{NodeKind}
 use Rattle.bound_project.specs.declared.declared_type.DeclaredType.{DeclaredType}
+use Rattle.bound_project.specs.declared.declared_type.DeclaredType.TheVariants.{Plain}
+use Rattle.bound_project.specs.declared.declared_type.ElementType.TheVariants as element
 use Rattle.bound_project.specs.declared.declarations.Parameter.{Parameter as ParameterHere}
 use Rattle.bound_project.specs.View.{declared_view, parameter_view}
 use Rattle.bound_project.specs.Expressions.{Exprs, Lvalue, also, element_value, host_member, named_member}
@@ -24,14 +26,14 @@ use Rattle.declared_names.specs.binder.specs.Constants.{home}
 use Rattle.declared_names.specs.binder.specs.Declarations.{Written}
 use Rattle.declared_names.specs.binder.specs.Scopes.{Scope, Space}
 use Rattle.declared_names.specs.binder.specs.Names.{scope_in}
-use Rattle.declared_names.specs.binder.specs.Signatures.{is_get, is_property, parameters_in, procedure_with, reader}
+use Rattle.declared_names.specs.binder.specs.Signatures.{call_type, is_get, is_property, parameters_in, procedure_with, reader}
 use Rattle.declared_names.specs.binder.specs.Options.{from_two}
 use Rattle.declared_names.specs.binder.specs.Storage.{bound_parameters, takes_value}
 use Rattle.bound_accesses.specs.bound_names.specs.bound_members.specs.bound_calls.specs.bound_forms.specs.Terms.{Env, Given, HostMember, a_value, bound_arguments, expression_of, has_names, no_term, read_of, routine_term, takes}
 use Rattle.bound_accesses.specs.bound_names.specs.bound_members.specs.bound_calls.specs.bound_forms.specs.Terms as terms
-use Rattle.bound_accesses.specs.bound_names.specs.bound_members.specs.bound_calls.specs.bound_forms.specs.ClassDefaults.{breaks, class_led, declared_in}
-use Rattle.bound_accesses.specs.bound_names.specs.bound_members.specs.bound_calls.specs.class_defaults.specs.Items.{ArePlain}
-use Rattle.bound_accesses.specs.bound_names.specs.bound_members.specs.bound_calls.specs.bound_forms.specs.ExpressionsBound.{along_type, along_value, are_places, argument_of, arguments_rule, bare_call, behind_base, call_value, call_with, callee, element_place, element_type, host_called, if_there, indexed, indexed_place, indexed_value, indexes_value, is_called_late, is_found_late, is_host_type, item_of, late_called, may_be_instance, may_index, member_called, member_takes, names_taken, node_or, numbers_of, object_member, operand_of, place_told, takes_arguments, term_of, term_or, variant_arguments, with_type, wrong_arguments, wrong_call, wrong_index, wrong_term}
+use Rattle.bound_accesses.specs.bound_names.specs.bound_members.specs.bound_calls.specs.bound_forms.specs.Operands.{along_type, are_places, argument_of, behind_base, call_value, element_place, element_type, fits_bounds, if_there, indexed_value, is_found_late, is_host_type, may_be_instance, numbers_of, operand_of, place_told, term_or, with_type}
+use Rattle.bound_accesses.specs.bound_names.specs.bound_members.specs.bound_calls.specs.bound_forms.specs.Members.{item_of, object_member}
+use Rattle.bound_accesses.specs.bound_names.specs.bound_members.specs.bound_calls.specs.bound_forms.specs.ExpressionsBound.{along_value, arguments_rule, call_with, callee, host_called, indexed, indexed_place, indexes_value, is_called_late, late_called, may_index, member_called, member_takes, names_taken, node_or, takes_arguments, term_of, value_indexed, variant_arguments, wrong_arguments, wrong_call, wrong_index, wrong_term, wrong_value}
 use Rattle.bound_accesses.specs.bound_names.specs.bound_members.specs.bound_calls.specs.declared.term.Ending.{Ending}
 use Rattle.declared_names.specs.View.{written_view}
 use Rattle.bound_accesses.specs.bound_names.specs.bound_members.specs.bound_calls.specs.declared.term.HostMember.{HostMember as MemberHere}
@@ -39,6 +41,7 @@ use Rattle.bound_accesses.specs.bound_names.specs.bound_members.specs.bound_call
 use Rattle.bound_accesses.specs.bound_names.specs.bound_members.specs.bound_calls.specs.declared.term.Refuser.{Refuser}
 use Rattle.bound_accesses.specs.bound_names.specs.bound_members.specs.bound_calls.specs.declared.term.Refuser.TheVariants as refuser
 use Rattle.bound_accesses.specs.bound_names.specs.bound_members.specs.bound_calls.specs.declared.term.MemberCall.{MemberCall}
+use Rattle.bound_accesses.specs.bound_names.specs.bound_members.specs.bound_calls.specs.declared.term.Receiver.{Receiver}
 use Rattle.bound_accesses.specs.bound_names.specs.bound_members.specs.bound_calls.specs.declared.term.Receiver.TheVariants as receiver
 use Rattle.bound_accesses.specs.bound_names.specs.bound_members.specs.bound_calls.specs.declared.term.Routine.{Routine}
 use Rattle.bound_accesses.specs.bound_names.specs.bound_members.specs.bound_calls.specs.declared.term.Term.{Term}
@@ -46,15 +49,15 @@ use Rattle.bound_accesses.specs.bound_names.specs.bound_members.specs.bound_call
 use Rattle.bound_accesses.specs.bound_names.specs.bound_members.specs.bound_calls.specs.declared.term.Tree.{Tree}
 use Rattle.bound_accesses.specs.bound_names.specs.bound_members.specs.bound_calls.specs.Calls.{node_of}
 use Rattle.bound_accesses.specs.bound_names.specs.bound_members.specs.bound_calls.specs.Indexing.{OpensTerm}
-use Rattle.bound_accesses.specs.bound_names.specs.bound_members.specs.bound_calls.specs.Taking.{CallsRoutine, read_kind}
+use Rattle.bound_accesses.specs.bound_names.specs.bound_members.specs.bound_calls.specs.Taking.{BaseThere, PushesObject, read_kind, values_of}
 use Rattle.bound_accesses.specs.bound_names.specs.bound_members.specs.MemberCalls.{OpensMember}
-use Rattle.bound_operands.proofs.LedItems.{led_broken, places_many, value_broken_of}
-use Rattle.bound_terms.specs.Indexing.{IndexesValue, NotIndexed, OpensItem, untaken_at}
-use Rattle.bound_terms.proofs.IndexedProperties.{none_written, property_value, read_get, same_routine}
-use Rattle.bound_accesses.specs.bound_names.specs.bound_members.specs.bound_calls.specs.Standing.{Grown, RefuserNamed, RoutineIs, TermStands, behind_values, member_is, refused_rule, values_before}
+use Rattle.bound_operands.specs.Indexing.{OpensBehind}
+use Rattle.bound_operands.proofs.Elements.{HasSome, brackets_given}
+use Rattle.bound_terms.specs.Indexing.{NotIndexed, OpensItem, member_refuser, procedure_refuser, untaken_at, value_refuser}
+use Rattle.bound_accesses.specs.bound_names.specs.bound_members.specs.bound_calls.specs.Standing.{Grown, IsReceiver, RefuserNamed, RoutineIs, TakesMember, TermStands, behind_values, member_is, refused_rule, refused_type, values_before}
 use Rattle.bound_accesses.specs.bound_names.specs.bound_members.specs.bound_calls.proofs.Growing.{grown_pieces, grown_same, grown_twice}
 use Rattle.bound_accesses.specs.bound_names.specs.bound_members.specs.bound_calls.proofs.CallSteps.{routine_item, taken_routine}
-use Rattle.bound_accesses.specs.bound_names.specs.bound_members.specs.bound_calls.proofs.Lacking.{module_base, module_pushed}
+use Rattle.bound_accesses.specs.bound_names.specs.bound_members.specs.bound_calls.proofs.Before.{indexed_before}
 use Rattle.bound_accesses.specs.bound_names.specs.bound_members.specs.bound_calls.proofs.Refusing.{refused}
 use Rattle.bound_accesses.specs.bound_names.specs.bound_members.specs.bound_calls.proofs.Taking.{read_ends}
 
@@ -68,26 +71,37 @@ broken_by : (b : Bool) (rule : ℕ) → (if b then None else Some 25) ≡ Some r
 broken_by true rule h = let e : ◌≡◌ {A = Option ℕ} None (Some rule) = h in absurd cc
 broken_by false rule h = (refl, ap (λ o. number_or rule o) h)
 
-not_host : (of : Declared) (gs : List Given) → may_index of gs ≡ false → is_host_type of ≡ false
-not_host (type.array_of of) gs h = refl
-not_host type.variant gs h = refl
-not_host type.boolean gs h = refl
-not_host type.byte gs h = refl
-not_host type.integer gs h = refl
-not_host type.long gs h = refl
-not_host type.long_long gs h = refl
-not_host type.currency gs h = refl
-not_host type.text gs h = refl
-not_host (type.fixed_text n) gs h = refl
-not_host (type.class n) gs h = refl
-not_host type.collection gs h = h
-not_host (type.udt n) gs h = refl
-not_host type.object gs h = h
-not_host type.worksheet gs h = h
-not_host type.range gs h = h
+not_host : (of : Declared) (bounds : ℕ) (gs : List Given) → may_index of bounds gs ≡ false → is_host_type of ≡ false
+not_host (type.array_of of) bounds gs h = refl
+not_host type.variant bounds gs h = refl
+not_host type.boolean bounds gs h = refl
+not_host type.byte bounds gs h = refl
+not_host type.integer bounds gs h = refl
+not_host type.long bounds gs h = refl
+not_host type.long_long bounds gs h = refl
+not_host type.currency bounds gs h = refl
+not_host type.text bounds gs h = refl
+not_host (type.fixed_text n) bounds gs h = refl
+not_host (type.class n) bounds gs h = refl
+not_host type.collection bounds gs h = h
+not_host (type.udt n) bounds gs h = refl
+not_host type.object bounds gs h = h
+not_host type.worksheet bounds gs h = h
+not_host type.range bounds gs h = h
 
-not_numbers : (value : terms.Term → Place → Option bound.Expr) (of : Declared) (gs : List Given) (T : Declared → Exprs → terms.Term) → may_index of gs ≡ false → with_type (element_type of) (numbers_of value gs) T ≡ no_term
-not_numbers value (type.array_of of) gs T h = rw h refl
+and_true : (a : Bool) → (a && true) ≡ false → a ≡ false
+and_true true h = h
+and_true false h = h
+
+-- where the number is right it is no matter
+index_fitting : (of : Declared) (bounds : ℕ) (gs : List Given) → fits_bounds bounds gs ≡ true → may_index of 0 gs ≡ may_index of bounds gs
+index_fitting (type.array_of of) bounds gs h = ap (λ (b : Bool). are_places gs && b) (sym h)
+index_fitting type.variant bounds gs h = refl
+index_fitting of bounds gs h = refl
+
+-- no numbers index it
+not_numbers : (value : terms.Term → Place → Option bound.Expr) (of : Declared) (gs : List Given) (T : Declared → Exprs → terms.Term) → may_index of 0 gs ≡ false → with_type (element_type of) (numbers_of value gs) T ≡ no_term
+not_numbers value (type.array_of of) gs T h = rw (and_true (are_places gs) h) refl
 not_numbers value type.variant gs T h = let e : true ≡ false = h in absurd cc
 not_numbers value type.boolean gs T h = refl
 not_numbers value type.byte gs T h = refl
@@ -104,70 +118,79 @@ not_numbers value type.object gs T h = refl
 not_numbers value type.worksheet gs T h = refl
 not_numbers value type.range gs T h = refl
 
-not_numbers_of : (b : Bool) (value : terms.Term → Place → Option bound.Expr) (of : Declared) (gs : List Given) (T : Declared → Exprs → terms.Term) → may_index of gs ≡ false
+not_numbers_of : (b : Bool) (value : terms.Term → Place → Option bound.Expr) (of : Declared) (gs : List Given) (T : Declared → Exprs → terms.Term) → may_index of 0 gs ≡ false
     → with_type (if b then None else element_type of) (numbers_of value gs) T ≡ no_term
 not_numbers_of true value of gs T h = refl
 not_numbers_of false value of gs T h = not_numbers value of gs T h
 
+-- nor those of another number than an array is declared with bounds
+not_fitting : (value : terms.Term → Place → Option bound.Expr) (of : Declared) (bounds : ℕ) (gs : List Given) (T : Declared → Exprs → terms.Term) (b : Bool) → may_index of bounds gs ≡ false
+    → (if fits_bounds bounds gs then with_type (if b then None else element_type of) (numbers_of value gs) T else no_term) ≡ no_term
+not_fitting value of bounds gs T b h = at (fits_bounds bounds gs) refl
+  where
+    at : (fits : Bool) → fits_bounds bounds gs ≡ fits → (if fits then with_type (if b then None else element_type of) (numbers_of value gs) T else no_term) ≡ no_term
+    at false e = refl
+    at true e = not_numbers_of b value of gs T (index_fitting of bounds gs e ∙ h)
+
 -- the run says nothing of it
-not_found : (env : Env) (place : Place) (node : bound.Node) (of : Declared) (gs : List Given) → may_index of gs ≡ false → is_found_late env (expression_of node place of) ≡ false
-not_found env place node type.variant gs h = let e : true ≡ false = h in absurd cc
-not_found env place node type.object gs h = let e : true ≡ false = h in absurd cc
-not_found env place node (type.class n) gs h = let e : true ≡ false = h in absurd cc
-not_found env place node of gs h = and_right (has_class env.scope.spaces) false refl
+not_found : (env : Env) (place : Place) (node : bound.Node) (of : Declared) (bounds : ℕ) (gs : List Given) → may_index of bounds gs ≡ false → is_found_late env (expression_of node place of) ≡ false
+not_found env place node type.variant bounds gs h = let e : true ≡ false = h in absurd cc
+not_found env place node type.object bounds gs h = let e : true ≡ false = h in absurd cc
+not_found env place node (type.class n) bounds gs h = let e : true ≡ false = h in absurd cc
+not_found env place node of bounds gs h = and_right (has_class env.scope.spaces) false refl
 
 -- nor what is of a class
-not_along : (env : Env) (place : Place) (node : bound.Node) (of : Declared) (gs : List Given) → may_index of gs ≡ false → along_type env (expression_of node place of) gs ≡ None
-not_along env place node (type.class n) gs h = let e : true ≡ false = h in absurd cc
-not_along env place node of gs h = ap (λ (b : Bool). if b then Some type.variant else None) (not_found env place node of gs h)
+not_along : (env : Env) (place : Place) (node : bound.Node) (of : Declared) (bounds : ℕ) (gs : List Given) → may_index of bounds gs ≡ false → along_type env (expression_of node place of) gs ≡ None
+not_along env place node (type.class n) bounds gs h = let e : true ≡ false = h in absurd cc
+not_along env place node of bounds gs h = ap (λ (b : Bool). if b then Some type.variant else None) (not_found env place node of bounds gs h)
 
 -- so the rule for what is of no class is broken
-wrong_of : (env : Env) (place : Place) (node : bound.Node) (of : Declared) (gs : List Given) → may_index of gs ≡ false → wrong_index env place node of gs ≡ wrong_arguments env place 25 (also (expression_of node place of)) gs
-wrong_of env place node (type.class n) gs h = let e : true ≡ false = h in absurd cc
-wrong_of env place node of gs h = ap (λ (b : Bool). if b then no_term else wrong_arguments env place 25 (also (expression_of node place of)) gs) h
+wrong_of : (env : Env) (place : Place) (node : bound.Node) (of : Declared) (bounds : ℕ) (gs : List Given) → may_index of bounds gs ≡ false → wrong_index env place node of bounds gs ≡ wrong_arguments env place 25 type.variant (also (expression_of node place of)) gs
+wrong_of env place node (type.class n) bounds gs h = let e : true ≡ false = h in absurd cc
+wrong_of env place node of bounds gs h = ap (λ (b : Bool). if b then no_term else wrong_arguments env place 25 type.variant (also (expression_of node place of)) gs) h
 
-not_indexed_value : (env : Env) (place : Place) (made : bound.Node) (of : Declared) (gs : List Given) → may_index of gs ≡ false → indexed_value (operand_of env) (along_value env) env place made of gs ≡ no_term
+not_indexed_value : (env : Env) (place : Place) (made : bound.Node) (of : Declared) (gs : List Given) → may_index of 0 gs ≡ false → indexed_value (operand_of env) (along_value env) env place made of gs ≡ no_term
 not_indexed_value env place made of gs h =
     let T : Declared → Exprs → terms.Term = λ (u : Declared) (xs : Exprs). a_value (element_value (expression_of made place of) xs) u in
-    rw (not_along env place made of gs h) (not_numbers_of (may_be_instance env (expression_of made place of)) (operand_of env) of gs T h)
+    rw (not_along env place made of 0 gs h) (not_numbers_of (may_be_instance env (expression_of made place of)) (operand_of env) of gs T h)
 
-value_refused : (env : Env) (place : Place) (made : bound.Node) (of : Declared) (gs : List Given) (rule : ℕ) → (if may_index of gs then None else Some 25) ≡ Some rule
-    → indexed env place (item_of env place (a_value made of)) gs ≡ wrong_arguments env place rule (also (expression_of made place of)) gs
+value_refused : (env : Env) (place : Place) (made : bound.Node) (of : Declared) (gs : List Given) (rule : ℕ) → (if may_index of 0 gs then None else Some 25) ≡ Some rule
+    → indexed env place (item_of env place (a_value made of)) gs ≡ wrong_arguments env place rule type.variant (also (expression_of made place of)) gs
 value_refused env place made of gs rule h =
-    let b = broken_by (may_index of gs) rule h in
+    let b = broken_by (may_index of 0 gs) rule h in
     let no_class : Bool = not (may_be_instance env (expression_of made place of)) in
-    ap (λ (c : Bool). indexed env place (if c && no_class then object_member place place made of (codes "item") else a_value made of) gs) (not_host of gs b.0)
+    ap (λ (c : Bool). indexed env place (if c && no_class then object_member place place made of (codes "item") else a_value made of) gs) (not_host of 0 gs b.0)
     ∙ ap (λ (z : terms.Term). term_or z (wrong_term env place (a_value made of) gs)) (not_indexed_value env place made of gs b.0)
-    ∙ wrong_of env place made of gs b.0 ∙ ap (λ (n : ℕ). wrong_arguments env place n (also (expression_of made place of)) gs) b.1
+    ∙ wrong_of env place made of 0 gs b.0 ∙ ap (λ (n : ℕ). wrong_arguments env place n type.variant (also (expression_of made place of)) gs) b.1
 
-place_refused : (env : Env) (place : Place) (at : Lvalue) (of : Declared) (bounded lends makes : Bool) (gs : List Given) (rule : ℕ) → (if may_index of gs then None else Some 25) ≡ Some rule
-    → indexed env place (item_of env place (terms.a_place at of bounded lends makes)) gs ≡ wrong_arguments env place rule (also (expression_of (read_of makes at) place of)) gs
-place_refused env place at of bounded lends makes gs rule h =
-    let b = broken_by (may_index of gs) rule h in
-    let T : Declared → Exprs → terms.Term = λ (u : Declared) (xs : Exprs). terms.a_place (element_place at xs) u false lends false in
-    let wrong = wrong_term env place (terms.a_place at of bounded lends makes) gs in
-    let no_class : Bool = not (may_be_instance env (expression_of (read_of makes at) place of)) in
-    let taken : indexed_place env (expression_of (read_of makes at) place of) at lends gs ≡ no_term =
-    rw (not_along env place (read_of makes at) of gs b.0) (not_numbers_of (may_be_instance env (expression_of (read_of makes at) place of)) (operand_of env) of gs T b.0) in
-    ap (λ (c : Bool). indexed env place (if c && no_class then object_member place place (read_of makes at) of (codes "item") else terms.a_place at of bounded lends makes) gs) (not_host of gs b.0)
-    ∙ ap (λ (z : terms.Term). term_or z wrong) taken ∙ wrong_of env place (read_of makes at) of gs b.0
-    ∙ ap (λ (n : ℕ). wrong_arguments env place n (also (expression_of (read_of makes at) place of)) gs) b.1
+place_refused : (env : Env) (place : Place) (at : Lvalue) (of : Declared) (bounds : ℕ) (lends makes : Bool) (gs : List Given) (rule : ℕ) → (if may_index of bounds gs then None else Some 25) ≡ Some rule
+    → indexed env place (item_of env place (terms.a_place at of bounds lends makes)) gs ≡ wrong_arguments env place rule type.variant (also (expression_of (read_of makes at) place of)) gs
+place_refused env place at of bounds lends makes gs rule h =
+    let b = broken_by (may_index of bounds gs) rule h in
+    let T : Declared → Exprs → terms.Term = λ (u : Declared) (xs : Exprs). terms.a_place (element_place at xs) u 0 lends makes in
+    let wrong = wrong_term env place (terms.a_place at of bounds lends makes) gs in
+    let instance : Bool = may_be_instance env (expression_of (read_of makes at) place of) in
+    let taken : indexed_place env (expression_of (read_of makes at) place of) at bounds lends makes gs ≡ no_term =
+    rw (not_along env place (read_of makes at) of bounds gs b.0) (not_fitting (operand_of env) of bounds gs T instance b.0) in
+    ap (λ (c : Bool). indexed env place (if c && not instance then object_member place place (read_of makes at) of (codes "item") else terms.a_place at of bounds lends makes) gs) (not_host of bounds gs b.0)
+    ∙ ap (λ (z : terms.Term). term_or z wrong) taken ∙ wrong_of env place (read_of makes at) of bounds gs b.0
+    ∙ ap (λ (n : ℕ). wrong_arguments env place n type.variant (also (expression_of (read_of makes at) place of)) gs) b.1
 
 -- what takes no arguments at all
-error_refused : (env : Env) (t : Tables) (place : Place) (gs : List Given) (rule : ℕ) → refused_rule t refuser.Bare gs ≡ Some rule → indexed env place terms.err_object gs ≡ wrong_arguments env place rule (λ es. es) gs
+error_refused : (env : Env) (t : Tables) (place : Place) (gs : List Given) (rule : ℕ) → refused_rule t refuser.Bare gs ≡ Some rule → indexed env place terms.err_object gs ≡ wrong_arguments env place rule type.variant (λ es. es) gs
 error_refused env t place [] rule h = let e : ◌≡◌ {A = Option ℕ} None (Some rule) = h in absurd cc
-error_refused env t place (g ∷ gs) rule h = ap (λ (n : ℕ). wrong_arguments env place n (λ es. es) (g ∷ gs)) (ap (λ o. number_or rule o) h)
+error_refused env t place (g ∷ gs) rule h = ap (λ (n : ℕ). wrong_arguments env place n type.variant (λ es. es) (g ∷ gs)) (ap (λ o. number_or rule o) h)
 
-clear_refused : (env : Env) (t : Tables) (place : Place) (gs : List Given) (rule : ℕ) → refused_rule t refuser.Bare gs ≡ Some rule → indexed env place terms.err_clear gs ≡ wrong_arguments env place rule (λ es. es) gs
+clear_refused : (env : Env) (t : Tables) (place : Place) (gs : List Given) (rule : ℕ) → refused_rule t refuser.Bare gs ≡ Some rule → indexed env place terms.err_clear gs ≡ wrong_arguments env place rule type.variant (λ es. es) gs
 clear_refused env t place [] rule h = let e : ◌≡◌ {A = Option ℕ} None (Some rule) = h in absurd cc
-clear_refused env t place (g ∷ gs) rule h = ap (λ (n : ℕ). wrong_arguments env place n (λ es. es) (g ∷ gs)) (ap (λ o. number_or rule o) h)
+clear_refused env t place (g ∷ gs) rule h = ap (λ (n : ℕ). wrong_arguments env place n type.variant (λ es. es) (g ∷ gs)) (ap (λ o. number_or rule o) h)
 
 -- ---- what stands then
 
 record Refuses (env : Env) (t : Tables) (r : Refuser) (place : Place) (z : terms.Term) (ps below : List Piece) : Type 0 where
   pub before : List bound.Expr
   pub before_long : length before ≡ values_before r
-  pub wrong : (gs : List Given) (rule : ℕ) → refused_rule t r gs ≡ Some rule → indexed env place (item_of env place z) gs ≡ wrong_arguments env place rule (behind_values before) gs
+  pub wrong : (gs : List Given) (rule : ℕ) → refused_rule t r gs ≡ Some rule → indexed env place (item_of env place z) gs ≡ wrong_arguments env place rule (declared_view (refused_type r)) (behind_values before) gs
   pub on_top : ps ≡ above (map an_expr before) below
 
 opens_refused : (env : Env) (x : Tree) (y : Term) (r : Refuser) (d e : Drafted) → Grown d e → RefuserNamed e.tables r
@@ -181,40 +204,64 @@ opens_refused env x y r d e grown named f = record {
       (below, (record { place_is = at; before = u.before; before_long = u.before_long; wrong = u.wrong; on_top = u.on_top }, s));
 }
 
--- a value
-pub value_untaken : (env : Env) (x : Tree) (v : Ending) (d e : Drafted) → e ≡ record d { pieces = put d.tables (node_of v.kind x.place v.of) d.pieces } → OpensTerm env x (term.Value v) d e (untaken_at x.place (refuser.Value v.of))
-value_untaken env x v d e eq =
+-- a value, which a property gave or which is another one
+value_refuses : (b : Bool) (env : Env) (x : Tree) (v : Ending) (r : Refuser) (d e : Drafted) → 1 ≡ values_before r → refused_type r ≡ Plain element.Variant → RefuserNamed e.tables r
+    → ((t : Tables) (gs : List Given) (rule : ℕ) → refused_rule t r gs ≡ Some rule → HasSome b gs × ((if may_index (declared_view v.of) 0 gs then None else Some 25) ≡ Some rule))
+    → e ≡ record d { pieces = put d.tables (node_of v.kind x.place v.of) d.pieces } → OpensBehind b env x (term.Value v) d e (untaken_at x.place r)
+value_refuses b env x v r d e one type_is named why eq =
     let n = node_of v.kind x.place v.of in
-    let after : Drafted = record d { pieces = put d.tables n d.pieces } in
-    let P : Drafted → Type 0 = λ (z : Drafted). OpensTerm env x (term.Value v) d z (untaken_at x.place (refuser.Value v.of)) in
-    subst P (sym eq) (opens_refused env x (term.Value v) (refuser.Value v.of) d after (grown_pieces d (put d.tables n d.pieces)) tt (λ tree below at h.
-    let place = place_told tree in
     let of = declared_view v.of in
-    record {
-      before = expression_of h.made place of ∷ [];
-      before_long = refl;
-      wrong = λ gs rule k. ap (λ (z : terms.Term). indexed env place (item_of env place z) gs) h.is ∙ value_refused env place h.made of gs rule k;
-      on_top = h.ends n ∙ ap (λ (p : Place). an_expr (expression_of h.made p of) ∷ below) at;
-    }))
+    let E : Tables → Type 0 = λ (t : Tables). RefuserNamed t r in
+    let P : Drafted → Type 0 = λ (z : Drafted). OpensBehind b env x (term.Value v) d z (untaken_at x.place r) in
+    subst P (sym eq) (record {
+      grown = grown_pieces d (put d.tables n d.pieces);
+      named = subst E (ap (λ (z : Drafted). z.tables) eq) named;
+      stands = λ tree xs is below base z at before h s.
+          let place = place_told tree in
+          let whole = expression_of h.made place of in (
+            below,
+            (
+              record {
+                place_is = at;
+                before = whole ∷ [];
+                before_long = one;
+                wrong = λ gs rule k.
+                    let w = why d.tables gs rule k in
+                    brackets_given b env place (callee env tree (term_of env tree)) z gs before w.0 ∙ ap (λ (y : terms.Term). indexed env place (item_of env place y) gs) h.is ∙ value_refused env place h.made of gs rule w.1
+                    ∙ ap (λ (u : DeclaredType). wrong_arguments env place rule (declared_view u) (also whole) gs) (sym type_is);
+                on_top = h.ends n ∙ ap (λ (p : Place). an_expr (expression_of h.made p of) ∷ below) at;
+              },
+              s,
+            ),
+          );
+    })
+
+called_some : (t : Tables) (of : DeclaredType) (gs : List Given) (rule : ℕ) → refused_rule t (refuser.Called of) gs ≡ Some rule → HasSome true gs × ((if may_index (declared_view of) 0 gs then None else Some 25) ≡ Some rule)
+called_some t of [] rule h = let e : ◌≡◌ {A = Option ℕ} None (Some rule) = h in absurd cc
+called_some t of (g ∷ gs) rule h = (tt, h)
+
+pub value_untaken : (b : Bool) (env : Env) (x : Tree) (v : Ending) (d e : Drafted) → e ≡ record d { pieces = put d.tables (node_of v.kind x.place v.of) d.pieces } → OpensBehind b env x (term.Value v) d e (untaken_at x.place (value_refuser v.of b))
+value_untaken false env x v d e eq = value_refuses false env x v (refuser.Value v.of 0) d e refl refl tt (λ t gs rule k. (tt, k)) eq
+value_untaken true env x v d e eq = value_refuses true env x v (refuser.Called v.of) d e refl refl tt (λ t gs rule k. called_some t v.of gs rule k) eq
 
 -- a place, of which the value is pushed
-pub place_untaken : (env : Env) (x : Tree) (kind : NodeKind) (of : DeclaredType) (bounded lends makes : Bool) (d m e : Drafted) → m ≡ record d { pieces = put d.tables (node_of kind x.place of) d.pieces }
-    → e ≡ record m { pieces = put m.tables (node_of (read_kind makes) x.place of) m.pieces } → OpensTerm env x (term.Place kind of bounded lends makes) d e (untaken_at x.place (refuser.Value of))
-place_untaken env x kind of bounded lends makes d m e first second =
-    let y = term.Place kind of bounded lends makes in
+pub place_untaken : (env : Env) (x : Tree) (kind : NodeKind) (of : DeclaredType) (bounds : ℕ) (lends makes : Bool) (d m e : Drafted) → m ≡ record d { pieces = put d.tables (node_of kind x.place of) d.pieces }
+    → e ≡ record m { pieces = put m.tables (node_of (read_kind makes) x.place of) m.pieces } → OpensTerm env x (term.Place kind of bounds lends makes) d e (untaken_at x.place (refuser.Value of bounds))
+place_untaken env x kind of bounds lends makes d m e first second =
+    let y = term.Place kind of bounds lends makes in
     let n = node_of kind x.place of in
     let l = node_of (read_kind makes) x.place of in
     let between : Drafted = record d { pieces = put d.tables n d.pieces } in
     let after : Drafted = record between { pieces = put between.tables l between.pieces } in
     let same : e ≡ after = second ∙ ap (λ (z : Drafted). record z { pieces = put z.tables l z.pieces }) first in
-    let P : Drafted → Type 0 = λ (z : Drafted). OpensTerm env x y d z (untaken_at x.place (refuser.Value of)) in
-    subst P (sym same) (opens_refused env x y (refuser.Value of) d after (grown_twice d between after (grown_pieces d (put d.tables n d.pieces)) (grown_pieces between (put between.tables l between.pieces))) tt (λ tree below at h.
+    let P : Drafted → Type 0 = λ (z : Drafted). OpensTerm env x y d z (untaken_at x.place (refuser.Value of bounds)) in
+    subst P (sym same) (opens_refused env x y (refuser.Value of bounds) d after (grown_twice d between after (grown_pieces d (put d.tables n d.pieces)) (grown_pieces between (put between.tables l between.pieces))) tt (λ tree below at h.
     let place = place_told tree in
     let u = declared_view of in
     record {
       before = expression_of (read_of makes h.at) place u ∷ [];
       before_long = refl;
-      wrong = λ gs rule k. ap (λ (z : terms.Term). indexed env place (item_of env place z) gs) h.is ∙ place_refused env place h.at u bounded lends makes gs rule k;
+      wrong = λ gs rule k. ap (λ (z : terms.Term). indexed env place (item_of env place z) gs) h.is ∙ place_refused env place h.at u bounds lends makes gs rule k;
       on_top = read_ends makes d.tables h.at between.pieces below (h.ends n) l ∙ ap (λ (p : Place). an_expr (expression_of (read_of makes h.at) p u) ∷ below) at;
     }))
 
@@ -273,7 +320,7 @@ none_mapped : (ps : List ParameterHere) → map parameter_view ps ≡ [] → ps 
 none_mapped [] h = refl
 none_mapped (p ∷ ps) h = let e : ◌≡◌ {A = List project.Parameter} (parameter_view p ∷ map parameter_view ps) [] = h in absurd cc
 
-not_indexed : (env : Env) (r : Routine) {z : terms.Term} (s : RoutineIs env r z) → NotIndexed r → (gs : List Given) → indexes_value s.read.1 gs ≡ false
+pub not_indexed : (env : Env) (r : Routine) {z : terms.Term} (s : RoutineIs env r z) → NotIndexed r → (gs : List Given) → indexes_value s.read.1 gs ≡ false
 not_indexed env r s none [] = refl
 not_indexed env r s none (g ∷ gs) = at (is_get s.read.1.kind && length s.read.1.parameters == 0) refl
   where
@@ -291,115 +338,67 @@ wrong_routine env place None space number w gs = refl
 wrong_routine env place (Some b) space number w gs = refl
 
 routine_indexed : (env : Env) (place : Place) (z : terms.Term) (base : Option bound.Expr) (space : Space) (number : ℕ) (w : Written) (gs : List Given) → z ≡ routine_term base space number w
-    → indexed env place (item_of env place z) gs ≡ term_or (call_with (argument_of env) (operand_of env) (along_value env) env place gs base space number w) (wrong_call env place base space number w gs)
+    → indexed env place (item_of env place z) gs ≡ term_or (call_with env place gs base space number w) (wrong_call env place base space number w gs)
 routine_indexed env place z base space number w gs is =
     let routine : terms.Term = routine_term base space number w in
     ap (λ (y : terms.Term). indexed env place y gs) (routine_item env place z base space number w is ∙ is) ∙ ap (λ (y : terms.Term). term_or y (wrong_term env place routine gs)) (taken_routine env place base space number w gs)
-    ∙ ap (λ (y : terms.Term). term_or (call_with (argument_of env) (operand_of env) (along_value env) env place gs base space number w) y) (wrong_routine env place base space number w gs)
+    ∙ ap (λ (y : terms.Term). term_or (call_with env place gs base space number w) y) (wrong_routine env place base space number w gs)
 
-procedure_refused : (env : Env) (t : Tables) (place : Place) (r : Routine) (z : terms.Term) (s : RoutineIs env r z) → NotIndexed r → r.receiver ≡ receiver.Module → (gs : List Given) (rule : ℕ) → refused_rule t (refuser.Procedure r.parameters) gs ≡ Some rule
-    → indexed env place (item_of env place z) gs ≡ wrong_arguments env place rule (λ es. es) gs
-procedure_refused env t place r z s none own gs rule h =
+procedure_refused : (env : Env) (t : Tables) (place : Place) (r : Routine) (z : terms.Term) (s : RoutineIs env r z) → NotIndexed r → (gs : List Given) (rule : ℕ) → refused_rule t (procedure_refuser r) gs ≡ Some rule
+    → indexed env place (item_of env place z) gs ≡ wrong_arguments env place rule (declared_view r.of) (behind_base s.base) gs
+procedure_refused env t place r z s none gs rule h =
+    let base = s.base in
     let ps = parameters_in env.scope s.space s.read.1 in
+    let of = call_type env.scope s.space s.read.1 in
     let b = broken_by (takes (map parameter_view r.parameters.now) gs) rule h in
     let no_takes : takes ps gs ≡ false = ap (λ (l : List project.Parameter). takes l gs) (sym s.parameters_are) ∙ b.0 in
-    let index : bound.Node → Declared → terms.Term = λ (n : bound.Node) (v : Declared). indexed_value (operand_of env) (along_value env) env place n v gs in
-    let wrong : bound.Node → Declared → terms.Term = λ (n : bound.Node) (v : Declared). wrong_index env place n v gs in
+    let index : bound.Node → Declared → terms.Term = λ (n : bound.Node) (v : Declared). value_indexed env place (item_of env place (a_value n v)) gs in
+    let wrong : bound.Node → Declared → terms.Term = λ (n : bound.Node) (v : Declared). wrong_value env place (item_of env place (a_value n v)) gs in
     let taken_as : ℕ × Written → terms.Term = λ (f : ℕ × Written).
-    if indexes_value f.1 gs then node_or (call_value env None s.space f.0 f.1 (Some bound.no_args)) index else call_value env None s.space f.0 f.1 (bound_arguments (argument_of env) (parameters_in env.scope s.space f.1) gs) in
+    if indexes_value f.1 gs then node_or (call_value env base s.space f.0 f.1 (Some bound.no_args)) index else call_value env base s.space f.0 f.1 (bound_arguments (argument_of env) (parameters_in env.scope s.space f.1) gs) in
     let wrong_as : ℕ × Written → terms.Term = λ (f : ℕ × Written).
-    if indexes_value f.1 gs then node_or (call_value env None s.space f.0 f.1 (Some bound.no_args)) wrong else if takes (parameters_in env.scope s.space f.1) gs then no_term else wrong_arguments env place 25 (λ es. es) gs in
-    let value = call_value env None s.space s.read.0 s.read.1 (Some bound.no_args) in
-    let call : Option bound.Args → terms.Term = λ (o : Option bound.Args). call_value env None s.space s.read.0 s.read.1 o in
-    let broken : terms.Term = if takes ps gs then no_term else wrong_arguments env place 25 (λ es. es) gs in
-    let is : z ≡ routine_term None s.space s.number s.written = s.is ∙ ap (λ (o : Option bound.Expr). routine_term o s.space s.number s.written) (module_base r.receiver s.base own s.received) in
-    routine_indexed env place z None s.space s.number s.written gs is ∙ ap (λ (o : Option (ℕ × Written)). term_or (if_there (option_map taken_as o)) (if_there (option_map wrong_as o))) s.reads
+    if indexes_value f.1 gs then node_or (call_value env base s.space f.0 f.1 (Some bound.no_args)) wrong
+    else if takes (parameters_in env.scope s.space f.1) gs then no_term else wrong_arguments env place 25 (call_type env.scope s.space f.1) (behind_base base) gs in
+    let value = call_value env base s.space s.read.0 s.read.1 (Some bound.no_args) in
+    let call : Option bound.Args → terms.Term = λ (o : Option bound.Args). call_value env base s.space s.read.0 s.read.1 o in
+    let marked : terms.Term = wrong_arguments env place 25 of (behind_base base) gs in
+    let broken : terms.Term = if takes ps gs then no_term else marked in
+    routine_indexed env place z base s.space s.number s.written gs s.is ∙ ap (λ (o : Option (ℕ × Written)). term_or (if_there (option_map taken_as o)) (if_there (option_map wrong_as o))) s.reads
     ∙ ap (λ (c : Bool). term_or (if c then node_or value index else call (bound_arguments (argument_of env) ps gs)) (if c then node_or value wrong else broken)) (not_indexed env r s none gs)
-    ∙ ap (λ (o : Option bound.Args). term_or (call o) broken) (refused (argument_of env) ps gs no_takes) ∙ ap (λ (c : Bool). if c then no_term else wrong_arguments env place 25 (λ es. es) gs) no_takes
-    ∙ ap (λ (n : ℕ). wrong_arguments env place n (λ es. es) gs) b.1
+    ∙ ap (λ (o : Option bound.Args). term_or (call o) broken) (refused (argument_of env) ps gs no_takes) ∙ ap (λ (c : Bool). if c then no_term else marked) no_takes
+    ∙ ap (λ (n : ℕ). wrong_arguments env place n of (behind_base base) gs) b.1 ∙ ap (λ (u : Declared). wrong_arguments env place rule u (behind_base base) gs) (sym s.of_is)
 
-pub procedure_untaken : (env : Env) (x : Tree) (r : Routine) (d : Drafted) → NotIndexed r → r.receiver ≡ receiver.Module → OpensTerm env x (term.Routine r) d d (untaken_at x.place (refuser.Procedure r.parameters))
-procedure_untaken env x r d none own = opens_refused env x (term.Routine r) (refuser.Procedure r.parameters) d d (grown_same d) tt (λ tree below at h.
-    record {
-      before = [];
-      before_long = refl;
-      wrong = λ gs rule k. procedure_refused env d.tables (place_told tree) r (callee env tree (term_of env tree)) h.routine none own gs rule k;
-      on_top = module_pushed r.receiver h.routine.base d.pieces below own h.pushed;
-    })
+-- the object that it is called of stands before its arguments
+abbrev of_base : Option bound.Expr → List bound.Expr
+of_base None = []
+of_base (Some base) = base ∷ []
 
-called_refused : (env : Env) (t : Tables) (place : Place) (z : terms.Term) (base : Option bound.Expr) (space : Space) (number : ℕ) (w : Written) (read : ℕ × Written) (made : bound.Node) (u : DeclaredType) (gs : List Given) (rule : ℕ)
-    → z ≡ routine_term base space number w → reader env.scope space number w ≡ Some read → is_get read.1.kind ≡ true → parameters_in env.scope space read.1 ≡ [] → bare_call env base space number w ≡ a_value made (declared_view u)
-    → refused_rule t (refuser.Called u) gs ≡ Some rule → indexed env place (item_of env place z) gs ≡ wrong_arguments env place rule (also (expression_of made place (declared_view u))) gs
-called_refused env t place z base space number w read made u [] rule is reads get none call h = let e : ◌≡◌ {A = Option ℕ} None (Some rule) = h in absurd cc
-called_refused env t place z base space number w read made u (g ∷ gs) rule is reads get none call h =
-    let of = declared_view u in
-    let b = broken_by (may_index of (g ∷ gs)) rule h in
-    let index : bound.Node → Declared → terms.Term = λ (n : bound.Node) (v : Declared). indexed_value (operand_of env) (along_value env) env place n v (g ∷ gs) in
-    let wrong : bound.Node → Declared → terms.Term = λ (n : bound.Node) (v : Declared). wrong_index env place n v (g ∷ gs) in
-    let test : ℕ × Written → Bool = λ (f : ℕ × Written). is_get f.1.kind && length f.1.parameters == 0 in
-    let call_as : ℕ × Written → terms.Term = λ (f : ℕ × Written). call_value env base space f.0 f.1 (bound_arguments (argument_of env) (parameters_in env.scope space f.1) (g ∷ gs)) in
-    let broken_as : ℕ × Written → terms.Term = λ (f : ℕ × Written). if takes (parameters_in env.scope space f.1) (g ∷ gs) then no_term else wrong_arguments env place 25 (behind_base base) (g ∷ gs) in
-    let taken_as : ℕ × Written → terms.Term = λ (f : ℕ × Written). if test f then node_or (call_value env base space f.0 f.1 (Some bound.no_args)) index else call_as f in
-    let wrong_as : ℕ × Written → terms.Term = λ (f : ℕ × Written). if test f then node_or (call_value env base space f.0 f.1 (Some bound.no_args)) wrong else broken_as f in
-    let value_is : call_value env base space read.0 read.1 (Some bound.no_args) ≡ a_value made of = property_value env base space number w read made of reads none call in
-    let one : test read ≡ true = ap (λ (c : Bool). c && length read.1.parameters == 0) get ∙ none_written (scope_in (home env.scope space) read.1) (takes_value read.1.kind) read.1.parameters none in
-    let value = call_value env base space read.0 read.1 (Some bound.no_args) in
-    routine_indexed env place z base space number w (g ∷ gs) is ∙ ap (λ (o : Option (ℕ × Written)). term_or (if_there (option_map taken_as o)) (if_there (option_map wrong_as o))) reads
-    ∙ ap (λ (c : Bool). term_or (if c then node_or value index else call_as read) (if c then node_or value wrong else broken_as read)) one ∙ ap (λ (y : terms.Term). term_or (node_or y index) (node_or y wrong)) value_is
-    ∙ ap (λ (y : terms.Term). term_or y (wrong_index env place made of (g ∷ gs))) (not_indexed_value env place made of (g ∷ gs) b.0)
-    ∙ wrong_of env place made of (g ∷ gs) b.0 ∙ ap (λ (n : ℕ). wrong_arguments env place n (also (expression_of made place of)) (g ∷ gs)) b.1
+base_values : (base : Option bound.Expr) (env : Env) (place : Place) (rule : ℕ) (of : Declared) (gs : List Given) → wrong_arguments env place rule of (behind_base base) gs ≡ wrong_arguments env place rule of (behind_values (of_base base)) gs
+base_values None env place rule of gs = refl
+base_values (Some base) env place rule of gs = refl
 
--- the same of what is of a class
-called_broken : (env : Env) (all : project.Declarations) (place : Place) (z : terms.Term) (base : Option bound.Expr) (space : Space) (number : ℕ) (w : Written) (read : ℕ × Written) (made : bound.Node) (k : ℕ) (of : Declared) (g : Given) (gs : List Given) (rule : ℕ)
-    → declared_in env.scope ≡ all → z ≡ routine_term base space number w → reader env.scope space number w ≡ Some read → is_get read.1.kind ≡ true → parameters_in env.scope space read.1 ≡ [] → bare_call env base space number w ≡ a_value made of
-    → of ≡ type.class k → class_led all k (g ∷ gs) ≡ breaks rule → indexed env place (item_of env place z) (g ∷ gs) ≡ wrong_arguments env place rule (also (expression_of made place of)) (g ∷ gs)
-called_broken env all place z base space number w read made k of g gs rule alike is reads get none call of_is h =
-    let index : bound.Node → Declared → terms.Term = λ (n : bound.Node) (v : Declared). indexed_value (operand_of env) (along_value env) env place n v (g ∷ gs) in
-    let wrong : bound.Node → Declared → terms.Term = λ (n : bound.Node) (v : Declared). wrong_index env place n v (g ∷ gs) in
-    let test : ℕ × Written → Bool = λ (f : ℕ × Written). is_get f.1.kind && length f.1.parameters == 0 in
-    let call_as : ℕ × Written → terms.Term = λ (f : ℕ × Written). call_value env base space f.0 f.1 (bound_arguments (argument_of env) (parameters_in env.scope space f.1) (g ∷ gs)) in
-    let broken_as : ℕ × Written → terms.Term = λ (f : ℕ × Written). if takes (parameters_in env.scope space f.1) (g ∷ gs) then no_term else wrong_arguments env place 25 (behind_base base) (g ∷ gs) in
-    let taken_as : ℕ × Written → terms.Term = λ (f : ℕ × Written). if test f then node_or (call_value env base space f.0 f.1 (Some bound.no_args)) index else call_as f in
-    let wrong_as : ℕ × Written → terms.Term = λ (f : ℕ × Written). if test f then node_or (call_value env base space f.0 f.1 (Some bound.no_args)) wrong else broken_as f in
-    let value_is : call_value env base space read.0 read.1 (Some bound.no_args) ≡ a_value made of = property_value env base space number w read made of reads none call in
-    let one : test read ≡ true = ap (λ (c : Bool). c && length read.1.parameters == 0) get ∙ none_written (scope_in (home env.scope space) read.1) (takes_value read.1.kind) read.1.parameters none in
-    let value = call_value env base space read.0 read.1 (Some bound.no_args) in
-    routine_indexed env place z base space number w (g ∷ gs) is ∙ ap (λ (o : Option (ℕ × Written)). term_or (if_there (option_map taken_as o)) (if_there (option_map wrong_as o))) reads
-    ∙ ap (λ (c : Bool). term_or (if c then node_or value index else call_as read) (if c then node_or value wrong else broken_as read)) one ∙ ap (λ (y : terms.Term). term_or (node_or y index) (node_or y wrong)) value_is
-    ∙ value_broken_of env all place made k of (g ∷ gs) rule alike of_is h
+base_long : (r : Receiver) (base : Option bound.Expr) → IsReceiver r base → length (of_base base) ≡ values_of r
+base_long receiver.Module None h = refl
+base_long receiver.Module (Some base) h = absurd h
+base_long (receiver.Own of) None h = absurd h
+base_long (receiver.Own of) (Some base) h = refl
+base_long (receiver.Pushed of) None h = absurd h
+base_long (receiver.Pushed of) (Some base) h = refl
 
-pub property_broken : (env : Env) (all : project.Declarations) (place : Place) (z : terms.Term) (base : Option bound.Expr) (space : Space) (number : ℕ) (w : Written) (read : ℕ × Written) (made : bound.Node) (k : ℕ) (of : Declared) (count one : ℕ) (gs : List Given) (rule : ℕ)
-    → declared_in env.scope ≡ all → z ≡ routine_term base space number w → reader env.scope space number w ≡ Some read → is_get read.1.kind ≡ true → parameters_in env.scope space read.1 ≡ [] → bare_call env base space number w ≡ a_value made of
-    → of ≡ type.class k → ((hs : List Given) → ArePlain count hs → class_led all k hs ≡ breaks one) → (if are_places gs && (length gs == count) then Some one else None) ≡ Some rule
-    → indexed env place (item_of env place z) gs ≡ wrong_arguments env place rule (also (expression_of made place of)) gs
-property_broken env all place z base space number w read made k of count one [] rule alike is reads get none call of_is breaks_it h = let e : ◌≡◌ {A = Option ℕ} None (Some rule) = h in absurd cc
-property_broken env all place z base space number w read made k of count one (g ∷ gs) rule alike is reads get none call of_is breaks_it h =
-    let b = led_broken (are_places (g ∷ gs) && (length (g ∷ gs) == count)) one rule h in
-    called_broken env all place z base space number w read made k of g gs one alike is reads get none call of_is (breaks_it (g ∷ gs) (places_many count (g ∷ gs) b.0))
-    ∙ ap (λ (n : ℕ). wrong_arguments env place n (also (expression_of made place of)) (g ∷ gs)) b.1
+base_there : (base : Option bound.Expr) (ps below : List Piece) → BaseThere base ps below → ps ≡ above (map an_expr (of_base base)) below
+base_there None ps below h = h
+base_there (Some base) ps below h = h
 
-pub property_untaken : (env : Env) (x : Tree) (r : Routine) (v : Ending) (d m e : Drafted) → IndexesValue r → CallsRoutine r d m v → e ≡ record m { pieces = put m.tables (node_of v.kind x.place v.of) m.pieces }
-    → OpensTerm env x (term.Routine r) d e (untaken_at x.place (refuser.Called v.of))
-property_untaken env x r v d m e i c eq =
-    let n = node_of v.kind x.place v.of in
-    let after : Drafted = record m { pieces = put m.tables n m.pieces } in
-    let P : Drafted → Type 0 = λ (z : Drafted). OpensTerm env x (term.Routine r) d z (untaken_at x.place (refuser.Called v.of)) in
-    subst P (sym eq) (opens_refused env x (term.Routine r) (refuser.Called v.of) d after (grown_twice d m after c.grown (grown_pieces m (put m.tables n m.pieces))) tt (λ tree below at h.
+pub procedure_untaken : (env : Env) (x : Tree) (r : Routine) (d e : Drafted) → NotIndexed r → PushesObject r.receiver d e → OpensTerm env x (term.Routine r) d e (untaken_at x.place (procedure_refuser r))
+procedure_untaken env x r d e none p = opens_refused env x (term.Routine r) (procedure_refuser r) d e p.grown tt (λ tree below at h.
+    let s = h.routine in
     let place = place_told tree in
-    let z = callee env tree (term_of env tree) in
-    let u = h.routine in
-    let b = c.stands env z below h in
-    let of = declared_view v.of in
-    let same : routine_term u.base u.space u.number u.written ≡ routine_term b.base b.space b.number b.written = sym u.is ∙ b.is in
-    let call : bare_call env u.base u.space u.number u.written ≡ a_value b.called.made of = same_routine u.base b.base u.space b.space u.number b.number u.written b.written same env ∙ b.called.is in
-    let property : is_property u.written.kind ≡ true = ap (λ (w : Written). is_property w.kind) u.written_is ∙ i.property in
     record {
-      before = expression_of b.called.made place of ∷ [];
-      before_long = refl;
-      wrong = λ gs rule k. called_refused env after.tables place z u.base u.space u.number u.written u.read b.called.made v.of gs rule u.is u.reads (read_get env.scope u.space u.number u.written u.read property u.reads)
-          (sym u.parameters_are ∙ ap (λ l. map parameter_view l) i.none) call k;
-      on_top = b.called.ends n ∙ ap (λ (p : Place). an_expr (expression_of b.called.made p of) ∷ below) at;
-    }))
+      before = of_base s.base;
+      before_long = base_long r.receiver s.base s.received;
+      wrong = λ gs rule k. procedure_refused env e.tables place r (callee env tree (term_of env tree)) s none gs rule k ∙ base_values s.base env place rule (declared_view r.of) gs;
+      on_top = base_there s.base e.pieces below (p.there s.base below s.received h.pushed);
+    })
 
 -- ---- members
 
@@ -435,31 +434,52 @@ member_broken true o rule h = let e : ◌≡◌ {A = Option ℕ} None (Some rule
 member_broken false o rule h = (refl, h)
 
 pub member_refused : (env : Env) (place : Place) (e : bound.Expr) (m : HostMember) (gs : List Given) (rule : ℕ) → (if member_takes m gs then None else arguments_rule m) ≡ Some rule
-    → indexed env place (terms.a_host_member e m) gs ≡ wrong_arguments env place rule (also e) gs
+    → indexed env place (terms.a_host_member e m) gs ≡ wrong_arguments env place rule m.of (also e) gs
 member_refused env place e m gs rule h =
     let b = member_broken (member_takes m gs) (arguments_rule m) rule h in
-    let marked : Option ℕ → terms.Term = λ (o : Option ℕ). if_there (option_map (λ n. wrong_arguments env place n (also e) gs) o) in
+    let marked : Option ℕ → terms.Term = λ (o : Option ℕ). if_there (option_map (λ n. wrong_arguments env place n m.of (also e) gs) o) in
     ap (λ (z : terms.Term). term_or z (wrong_term env place (terms.a_host_member e m) gs)) (not_called env e m gs b.0) ∙ ap (λ (c : Bool). if c then no_term else marked (arguments_rule m)) b.0 ∙ ap marked b.1
 
-pub member_untaken : (env : Env) (x : Tree) (m : MemberHere) (d : Drafted) → m.name < length d.tables.constants → OpensItem env x m d d (untaken_at x.place (refuser.Member m))
-member_untaken env x m d named = record {
+-- what brackets stand behind is the member
+takes_brackets : (b : Bool) (env : Env) (place : Place) (z m : terms.Term) (gs : List Given) → TakesMember b env place z m → HasSome b gs → indexed env place (item_of env place z) gs ≡ indexed env place m gs
+takes_brackets false env place z m gs takes some = ap (λ (t : terms.Term). indexed env place t gs) takes
+takes_brackets true env place z m [] takes some = absurd some
+takes_brackets true env place z m (g ∷ gs) takes some = indexed_before env place z (g ∷ gs) ∙ ap (λ (t : terms.Term). indexed env place t (g ∷ gs)) (takes g gs)
+
+member_refuses : (b : Bool) (env : Env) (x : Tree) (m : MemberHere) (r : Refuser) (d : Drafted) → 1 ≡ values_before r → refused_type r ≡ m.of → RefuserNamed d.tables r
+    → ((gs : List Given) (rule : ℕ) → refused_rule d.tables r gs ≡ Some rule → HasSome b gs × ((if member_takes (member_is d.tables m) gs then None else arguments_rule (member_is d.tables m)) ≡ Some rule))
+    → OpensItem b env x m d d (untaken_at x.place r)
+member_refuses b env x m r d one type_is named why = record {
   grown = grown_same d;
   named = named;
-  stands = λ tree xs is below base at h s.
-      let place = place_told tree in (
+  stands = λ tree xs is object below base at takes on_top s.
+      let place = place_told tree in
+      let member = member_is d.tables m in (
         below,
         (
           record {
             place_is = at;
-            before = h.object ∷ [];
-            before_long = refl;
-            wrong = λ gs rule w. ap (λ (v : terms.Term). indexed env place v gs) h.is ∙ member_refused env place h.object (member_is d.tables m) gs rule w;
-            on_top = h.on_top;
+            before = object ∷ [];
+            before_long = one;
+            wrong = λ gs rule k.
+                let w = why gs rule k in
+                takes_brackets b env place (callee env tree (term_of env tree)) (terms.a_host_member object member) gs takes w.0 ∙ member_refused env place object member gs rule w.1
+                ∙ ap (λ (u : DeclaredType). wrong_arguments env place rule (declared_view u) (also object) gs) (sym type_is);
+            on_top = on_top;
           },
           s,
         ),
       );
 }
 
-pub member_opened : (env : Env) (has : Bool) (x : Tree) (m : MemberHere) (d e : Drafted) (c : MemberCall) → has_class env.scope.spaces ≡ has → OpensMember has x.place m d e c → OpensItem env x m d e (items.Member c)
-member_opened env has x m d e c known o = record { grown = o.grown; named = o.named; stands = λ tree xs is below base at h s. o.stands env known tree xs is below base at h s }
+behind_some : (t : Tables) (m : MemberHere) (gs : List Given) (rule : ℕ) → refused_rule t (refuser.Behind m) gs ≡ Some rule → HasSome true gs × ((if member_takes (member_is t m) gs then None else arguments_rule (member_is t m)) ≡ Some rule)
+behind_some t m [] rule h = let e : ◌≡◌ {A = Option ℕ} None (Some rule) = h in absurd cc
+behind_some t m (g ∷ gs) rule h = (tt, h)
+
+pub member_untaken : (b : Bool) (env : Env) (x : Tree) (m : MemberHere) (d : Drafted) → m.name < length d.tables.constants → OpensItem b env x m d d (untaken_at x.place (member_refuser m b))
+member_untaken false env x m d named = member_refuses false env x m (refuser.Member m) d refl refl named (λ gs rule k. (tt, k))
+member_untaken true env x m d named = member_refuses true env x m (refuser.Behind m) d refl refl named (λ gs rule k. behind_some d.tables m gs rule k)
+
+pub member_opened : (b : Bool) (env : Env) (has : Bool) (x : Tree) (m : MemberHere) (d e : Drafted) (c : MemberCall) → has_class env.scope.spaces ≡ has → OpensMember has b x.place m d e c → OpensItem b env x m d e (items.Member c)
+member_opened b env has x m d e c known o =
+    record { grown = o.grown; named = o.named; stands = λ tree xs is object below base at takes on_top s. o.stands env known tree xs is object below base at takes on_top s }

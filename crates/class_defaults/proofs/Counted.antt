@@ -3,10 +3,11 @@ use Rattle.std.proofs.Common.{◌≡◌, ℕ, zero, suc, ◌-◌, ◌==◌, Bool
 use Rattle.std.specs.List.{list_all}
 use Rattle.vba_values.specs.Types.{Declared}
 use Rattle.vba_values.specs.Types as type
-use Rattle.vba_meaning.specs.Defaults.{has_parameters, without_last}
+use Rattle.bound_project.specs.Parameters.{has_parameters, without_last}
 use Rattle.bound_project.specs.Project.{Class, Declarations, Member, is_variable, is_procedure, is_property, Parameter, Procedure, class_at, procedure_at}
+use Rattle.vba_meaning.specs.Defaults.{most_passed}
 use Rattle.bound_declarations.specs.constant_values.specs.declared_names.specs.binder.specs.Classes.{class_in}
-use Rattle.bound_forms.specs.ClassDefaults.{breaks, class_led, class_let, class_set, field_type, known_or, led_by, let_by, member_led, member_let, member_set, most_passed, not_said, other_led, other_let, other_set, procedure_led, property_let, property_set, reader_let, reader_set, result_let, set_by, written_by}
+use Rattle.bound_forms.specs.ClassDefaults.{breaks, class_led, class_let, class_set, field_type, known_or, led_by, let_by, member_led, member_let, member_set, not_said, other_led, other_let, other_set, procedure_led, property_let, property_set, reader_let, reader_set, result_let, set_by, written_by}
 use Rattle.bound_forms.specs.ClassDefaults as plain
 use Rattle.bound_forms.specs.Terms.{Given, has_names, may_lack, takes, takes_named}
 use Rattle.class_defaults.specs.Known.{Passes, on, ends, passed_by}

@@ -1,53 +1,15 @@
 -- Default members of classes: how they pass on what is written to them.
-use Rattle.std.proofs.Common.{◌≡◌, ℕ, zero, suc, ◌-◌, ◌<◌, ◌≤◌, List, [], ◌∷◌, length, get_or, map, take, refl, ap, ◌∙◌, arith}
-use Rattle.std.specs.Prelude.{option_map, Bool, true, false, Option, Some, None, if◌then◌else◌, slice_index_or}
+use Rattle.std.proofs.Common.{◌≡◌, ℕ, zero, suc, ◌-◌, refl, ap, ◌∙◌, arith}
+use Rattle.std.specs.Prelude.{Bool, true, false, Option, Some, None, if◌then◌else◌}
 use Rattle.vba_values.specs.Types.{Declared}
 use Rattle.vba_values.specs.Types as type
-use Rattle.vba_meaning.specs.Defaults.{any_must, without_last}
-use Rattle.bound_project.specs.declared.declarations.Class.{Class as RustClass}
-use Rattle.bound_project.specs.Project.{Class, Declarations, Member, is_variable, is_procedure, is_property, class_at, no_class, procedure_at}
-use Rattle.bound_project.specs.View.{class_member_view, class_view, declaration_view}
+use Rattle.bound_project.specs.Parameters.{any_must}
+use Rattle.bound_project.specs.Project.{Class, Declarations, Member, is_variable, is_procedure, is_property, class_at, procedure_at}
 use Rattle.bound_declarations.specs.constant_values.specs.declared_names.specs.binder.specs.Classes.{class_in}
 use Rattle.bound_declarations.specs.constant_values.specs.declared_names.specs.binder.specs.Types.{is_object}
-use Rattle.bound_forms.specs.ClassDefaults.{class_written, field_type, known, member_written, not_said, other_written, written_by}
+use Rattle.bound_forms.specs.ClassDefaults.{class_written, field_type, known, member_written, other_written, written_by}
 use Rattle.bound_forms.specs.ClassDefaults as plain
 use Rattle.class_defaults.specs.Known.{Passes, on, ends, passed_by, write_passes, written_on}
-
--- ---- classes by their numbers
-
-pub class_before : (d : Declarations) (c : ℕ) → (c ≡ 0 → ⊥) → class_at d c ≡ slice_index_or d.classes (c - 1) no_class
-class_before d zero h = absurd (h refl)
-class_before d (suc c) h = let e : suc c - 1 ≡ c = omega arith in rw e refl
-
-class_there : (cs : List RustClass) (i : ℕ) (d : RustClass) → i < length cs → slice_index_or (map class_view cs) i no_class ≡ class_view (get_or cs i d)
-class_there [] i d h = absurd (omega arith)
-class_there (c ∷ cs) zero d h = refl
-class_there (c ∷ cs) (suc i) d h = class_there cs i d (omega arith)
-
-pub class_past : (cs : List RustClass) (i : ℕ) → length cs ≤ i → slice_index_or (map class_view cs) i no_class ≡ no_class
-class_past [] i h = refl
-class_past (c ∷ cs) zero h = absurd (omega arith)
-class_past (c ∷ cs) (suc i) h = class_past cs i (omega arith)
-
-pub fields_there : (cs : List RustClass) (i : ℕ) (d : RustClass) → i < length cs → (slice_index_or (map class_view cs) i no_class).fields ≡ map declaration_view (get_or cs i d).fields.items
-fields_there cs i d h = ap (λ c. c.fields) (class_there cs i d h)
-
-pub default_there : (cs : List RustClass) (i : ℕ) (d : RustClass) → i < length cs → (slice_index_or (map class_view cs) i no_class).default ≡ option_map class_member_view (get_or cs i d).default
-default_there cs i d h = ap (λ c. c.default) (class_there cs i d h)
-
--- ---- parameters without the last one: they are the first ones
-
-without_last_count : {A B : Type 0} (f : A → B) (x : A) (xs : List A) → without_last (map f (x ∷ xs)) ≡ map f (take (length xs) (x ∷ xs))
-without_last_count f x [] = refl
-without_last_count f x (y ∷ ys) = ap (λ l. f x ∷ l) (without_last_count f y ys)
-
-pub without_last_map : {A B : Type 0} (f : A → B) (xs : List A) → without_last (map f xs) ≡ map f (take (length xs - 1) xs)
-without_last_map f [] = refl
-without_last_map f (x ∷ xs) =
-    let behind : suc (length xs) - 1 ≡ length xs = omega arith in
-    rw behind (without_last_count f x xs)
-
--- ---- a value is written
 
 read_or_ends : (b : Bool) (pass : Declared → plain.Known) (found : plain.Known) (of : Declared) → passed_by pass (if b then ends found else on of) ≡ (if b then found else pass of)
 read_or_ends true pass found of = refl
@@ -61,9 +23,9 @@ on_or_ends false pass found of = refl
 pub passes_written : (none : ℕ) (pass : Declared → plain.Known) (d : Declarations) (c : Class) (m : Option Member) → passed_by pass (write_passes none d c m) ≡ member_written none pass d c m
 passes_written none pass d c None = refl
 passes_written none pass d c (Some (is_variable i makes)) = on_or_ends (is_object (field_type c i)) pass (known type.variant) (field_type c i)
-passes_written none pass d c (Some (is_procedure p)) = read_or_ends (any_must (procedure_at d p).parameters) pass not_said (procedure_at d p).result.of
+passes_written none pass d c (Some (is_procedure p)) = read_or_ends (any_must (procedure_at d p).parameters) pass (plain.breaks 27) (procedure_at d p).result.of
 passes_written none pass d c (Some (is_property reads (Some p) sets)) = refl
-passes_written none pass d c (Some (is_property (Some p) None sets)) = read_or_ends (any_must (procedure_at d p).parameters) pass not_said (procedure_at d p).result.of
+passes_written none pass d c (Some (is_property (Some p) None sets)) = read_or_ends (any_must (procedure_at d p).parameters) pass (plain.breaks 27) (procedure_at d p).result.of
 passes_written none pass d c (Some (is_property None None sets)) = refl
 
 -- a value is written to an object of a class

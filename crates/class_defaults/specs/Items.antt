@@ -3,8 +3,9 @@ use Rattle.std.specs.Prelude.{◌≡◌, ℕ, zero, suc, Bool, true, false, ◌|
 use Rattle.std.specs.List.{list_all}
 use Rattle.vba_values.specs.Types.{Declared}
 use Rattle.vba_values.specs.Types as type
-use Rattle.vba_meaning.specs.Defaults.{has_parameters, without_last}
+use Rattle.bound_project.specs.Parameters.{has_parameters, without_last}
 use Rattle.bound_project.specs.Project.{Class, Declarations, Member, is_variable, is_procedure, is_property, Parameter, Procedure, nowhere, procedure_at}
+use Rattle.bound_declarations.specs.constant_values.specs.declared_names.specs.binder.specs.Constants.{is_variant}
 use Rattle.bound_declarations.specs.constant_values.specs.declared_names.specs.binder.specs.Types.{is_object}
 use Rattle.bound_forms.specs.ClassDefaults.{Known, breaks, field_type, known, known_or, led_by, let_by, not_said, result_let, set_by}
 use Rattle.bound_forms.specs.Terms.{Given, may_lack, no_term, takes}
@@ -37,7 +38,7 @@ abbrev pub procedure_leads : Procedure → List Given → Passes
 procedure_leads p gs = if has_parameters p.parameters then ends (known_or (takes p.parameters gs) 25 p.result.of) else on p.result.of
 
 abbrev pub property_leads : Declarations → (reads : Option ℕ) → List Given → Passes
-property_leads d None gs = ends not_said
+property_leads d None gs = ends (breaks 34)
 property_leads d (Some p) gs = procedure_leads (procedure_at d p) gs
 
 abbrev pub default_leads : Declarations → Class → Member → List Given → Passes
@@ -60,7 +61,7 @@ abbrev pub reader_lets : Declarations → Procedure → List Given → Passes
 reader_lets d p gs = if has_parameters p.parameters then ends (result_let d p gs) else on p.result.of
 
 abbrev pub property_lets : Declarations → (reads : Option ℕ) → List Given → Passes
-property_lets d None gs = ends not_said
+property_lets d None gs = ends (breaks 27)
 property_lets d (Some p) gs = reader_lets d (procedure_at d p) gs
 
 -- a Let or a Set with other parameters takes the arguments; one without isn't asked
@@ -87,9 +88,9 @@ let_on d gs (suc left) of = let_by d gs left of
 
 -- ---- where it is given an object
 
--- an element of an array of objects is given one
+-- an element of an array of objects, or of Variants, is given one
 abbrev pub element_set : Declared → Known
-element_set of = if is_object of then known of else not_said
+element_set of = if is_object of || is_variant of then known of else not_said
 
 -- what takes the arguments and only gives something can't be set
 abbrev pub unset_rule : (takes : Bool) → Known
@@ -100,7 +101,7 @@ abbrev pub reader_sets : Procedure → List Given → Passes
 reader_sets p gs = if has_parameters p.parameters then ends (unset_rule (takes p.parameters gs)) else on p.result.of
 
 abbrev pub property_sets : Declarations → (reads : Option ℕ) → List Given → Passes
-property_sets d None gs = ends not_said
+property_sets d None gs = ends (breaks 27)
 property_sets d (Some p) gs = reader_sets (procedure_at d p) gs
 
 abbrev pub default_sets : Declarations → Class → Member → List Given → Passes

@@ -2,7 +2,7 @@
 use Rattle.std.specs.Prelude.{ℕ, zero, suc, Option, Some, None, if◌then◌else◌}
 use Rattle.vba_values.specs.Types.{Declared}
 use Rattle.vba_values.specs.Types as type
-use Rattle.vba_meaning.specs.Defaults.{any_must}
+use Rattle.bound_project.specs.Parameters.{any_must}
 use Rattle.bound_project.specs.Project.{Class, Declarations, Member, is_variable, is_procedure, is_property, Procedure, procedure_at}
 use Rattle.bound_project.specs.View.{declared_view}
 use Rattle.bound_declarations.specs.constant_values.specs.declared_names.specs.binder.specs.Types.{is_object}
@@ -34,9 +34,9 @@ passed_by pass (ends found) = found
 
 -- ---- a value is written to an object's default member
 
--- what only gives an object passes the value on
+-- what only gives an object passes the value on; S27 where it needs arguments for that
 abbrev pub reader_passes : Procedure → Passes
-reader_passes p = if any_must p.parameters then ends plain.not_said else on p.result.of
+reader_passes p = if any_must p.parameters then ends (plain.breaks 27) else on p.result.of
 
 -- a variable takes the value, or the object that it holds does
 abbrev pub variable_passes : Declared → Passes
@@ -47,7 +47,7 @@ member_passes d c (is_variable i makes) = variable_passes (field_type c i)
 member_passes d c (is_procedure p) = reader_passes (procedure_at d p)
 member_passes d c (is_property reads (Some p) sets) = ends (let_written (procedure_at d p))
 member_passes d c (is_property (Some p) None sets) = reader_passes (procedure_at d p)
-member_passes d c (is_property None None sets) = ends plain.not_said
+member_passes d c (is_property None None sets) = ends (plain.breaks 27)
 
 -- a class without a default member breaks a rule
 abbrev pub write_passes : (none : ℕ) → Declarations → Class → Option Member → Passes

@@ -13,13 +13,14 @@ ghost use Rattle.std.specs.List.{list_all};
 ghost use Rattle.class_defaults.specs.Known.{known_view, way_view};
 ghost use Rattle.class_defaults.specs.Items.{ArePlain, default_leads, default_lets, default_sets, element_set, led_on, let_on, member_leads, member_lets, member_sets, plainly, procedure_leads, property_leads, property_lets, property_sets, reader_lets, reader_sets, set_on, setter_passes, takes_many, unset_rule, written_passes};
 
-use crate::known::{
-    Known, MOST_PASSED, Way, default_of, field_type, has_parameters, known_or, known_variant,
-    parameters_of, result_of, without_last, written_by,
-};
+use crate::known::{Known, Way, field_type, known_or, known_variant, written_by};
 use bound_declarations::class_in;
 use bound_declarations::constant_values::declared_names::is_object;
-use bound_project::{Declarations, DeclaredType, ElementType, Member, Parameter};
+use bound_declarations::constant_values::is_variant;
+use bound_project::{
+    Declarations, DeclaredType, ElementType, MOST_PASSED, Member, Parameter, default_of,
+    has_parameters, parameters_of, result_of, without_last,
+};
 
 /// May a parameter be given nothing?
 pub fn may_lack(parameter: &Parameter) -> bool
@@ -97,13 +98,13 @@ fn procedure_led(declared: &Declarations, procedure: u32, count: u32) -> Way
     Way::On(of)
 }
 
-/// The same of a property, by its Get, if it has one.
+/// The same of a property, by its Get, or S34 where it has none.
 fn property_led(declared: &Declarations, reads: Option<u32>, count: u32) -> Way
     ensures { way_view result ≡ property_leads (declarations_view declared.now) reads (plainly count) }
 {
     match reads {
         Some(procedure) => procedure_led(declared, procedure, count),
-        None => Way::Ends(Known::NotSaid),
+        None => Way::Ends(Known::Breaks(34)),
     }
 }
 
@@ -220,13 +221,13 @@ fn reader_let(declared: &Declarations, procedure: u32, count: u32) -> Way
     Way::On(result_of(declared, procedure))
 }
 
-/// The same of a property, by its Get, if it has one.
+/// The same of a property, by its Get, or S27 where it has none.
 fn property_let(declared: &Declarations, reads: Option<u32>, count: u32) -> Way
     ensures { way_view result ≡ property_lets (declarations_view declared.now) reads (plainly count) }
 {
     match reads {
         Some(procedure) => reader_let(declared, procedure, count),
-        None => Way::Ends(Known::NotSaid),
+        None => Way::Ends(Known::Breaks(27)),
     }
 }
 
@@ -324,11 +325,11 @@ pub fn class_let(declared: &Declarations, class: u32, count: u32) -> Known
 
 // ---- where it is given an object
 
-/// An element of an array of objects is given an object.
+/// An element of an array of objects, or of Variants, is given an object.
 fn element_set(of: DeclaredType) -> Known
     ensures { known_view result ≡ element_set (declared_view of) }
 {
-    if is_object(of) {
+    if is_object(of) || is_variant(of) {
         return Known::Type(of);
     }
     Known::NotSaid
@@ -374,13 +375,13 @@ fn reader_set(declared: &Declarations, procedure: u32, count: u32) -> Way
     Way::On(result_of(declared, procedure))
 }
 
-/// The same of a property, by its Get, if it has one.
+/// The same of a property, by its Get, or S27 where it has none.
 fn property_set(declared: &Declarations, reads: Option<u32>, count: u32) -> Way
     ensures { way_view result ≡ property_sets (declarations_view declared.now) reads (plainly count) }
 {
     match reads {
         Some(procedure) => reader_set(declared, procedure, count),
-        None => Way::Ends(Known::NotSaid),
+        None => Way::Ends(Known::Breaks(27)),
     }
 }
 

@@ -1,11 +1,10 @@
 //! Default members of what is declared as of a class, as far as they are known before the run: the type of the value to
 //! which an object gives way, whether one can be written, and which rule is broken so.
 
-ghost use Rattle.std.specs.Prelude.{◌≡◌, map, option_map, slice_index_or, Some};
+ghost use Rattle.std.specs.Prelude.{◌≡◌, map, slice_index_or, Some};
 ghost use Rattle.vba_values.specs.Types as type;
-ghost use Rattle.bound_project.specs.Project.{class_at, no_class, no_declaration, procedure_at};
-ghost use Rattle.bound_project.specs.View.{class_member_view, class_view, declaration_view, declarations_view, declared_view, parameter_view};
-ghost use Rattle.vba_meaning.specs.Defaults.{any_must, has_parameters, last_type, must_be_given, without_last};
+ghost use Rattle.bound_project.specs.Project.{class_at, no_declaration, procedure_at};
+ghost use Rattle.bound_project.specs.View.{class_member_view, declaration_view, declarations_view, declared_view};
 ghost use Rattle.bound_forms.specs.ClassDefaults.{class_written, default_read, field_type, known_or, let_written, member_read, other_written, procedure_read, written_by};
 ghost use Rattle.bound_forms.specs.ClassDefaults as plain;
 ghost use Rattle.class_defaults.specs.Known.{known_view, member_passes, reader_passes, variable_passes, way_view, write_passes, written_on};
@@ -13,11 +12,9 @@ ghost use Rattle.class_defaults.specs.Known.{known_view, member_passes, reader_p
 use bound_declarations::class_in;
 use bound_declarations::constant_values::declared_names::is_object;
 use bound_project::{
-    Class, Declaration, Declarations, DeclaredType, ElementType, Member, Parameter,
+    Declaration, Declarations, DeclaredType, ElementType, Member, any_must, default_of, fields_of,
+    last_type, parameters_of, result_of, without_last,
 };
-
-/// How many default members may pass arguments, or a value, on to what they give.
-pub const MOST_PASSED: u32 = 8;
 
 /// What is known before the run: the type of what there is, or the rule that is broken; or nothing is said.
 #[derive(Clone, Copy)]
@@ -52,52 +49,7 @@ pub fn known_variant() -> Known
     Known::Type(DeclaredType::Plain(ElementType::Variant))
 }
 
-// ---- classes and procedures by their numbers
-
-/// The default member of a class; classes count from 1.
-#[tactic(auto, using(crate::proofs::Passed::class_before))]
-pub fn default_of(declared: &Declarations, class: u32) -> Option<Member>
-    ensures { option_map class_member_view result ≡ (class_at (declarations_view declared.now) class).default }
-{
-    if class == 0 {
-        return None;
-    }
-    default_at(declared.classes.as_slice(), class as usize - 1)
-}
-
-/// The default member of the class at a place.
-#[tactic(auto, using(crate::proofs::Passed::default_there, crate::proofs::Passed::class_past))]
-fn default_at(classes: &[Class], number: usize) -> Option<Member>
-    ensures { option_map class_member_view result ≡ (slice_index_or (map class_view classes.now) number no_class).default }
-{
-    if number < classes.len() {
-        classes[number].default
-    } else {
-        None
-    }
-}
-
-/// The variables of a class.
-#[tactic(auto, using(crate::proofs::Passed::class_before))]
-fn fields_of(declared: &Declarations, class: u32) -> &[Declaration]
-    ensures { map declaration_view result.now ≡ (class_at (declarations_view declared.now) class).fields }
-{
-    if class == 0 {
-        return &[];
-    }
-    fields_at(declared.classes.as_slice(), class as usize - 1)
-}
-
-/// The variables of the class at a place.
-#[tactic(auto, using(crate::proofs::Passed::fields_there, crate::proofs::Passed::class_past))]
-fn fields_at(classes: &[Class], number: usize) -> &[Declaration]
-    ensures { map declaration_view result.now ≡ (slice_index_or (map class_view classes.now) number no_class).fields }
-{
-    match classes.get(number) {
-        Some(class) => class.fields.as_slice(),
-        None => &[],
-    }
-}
+// ---- variables of classes by their numbers
 
 /// The type of one of these variables.
 fn type_at(fields: &[Declaration], field: u32) -> DeclaredType
@@ -116,75 +68,6 @@ pub fn field_type(declared: &Declarations, class: u32, field: u32) -> DeclaredTy
     type_at(fields_of(declared, class), field)
 }
 
-/// The parameters of a procedure.
-pub fn parameters_of(declared: &Declarations, procedure: u32) -> &[Parameter]
-    ensures { map parameter_view result.now ≡ (procedure_at (declarations_view declared.now) procedure).parameters }
-{
-    match declared.procedures.get(procedure as usize) {
-        Some(procedure) => procedure.parameters.as_slice(),
-        None => &[],
-    }
-}
-
-/// The type of what a procedure gives.
-pub fn result_of(declared: &Declarations, procedure: u32) -> DeclaredType
-    ensures { declared_view result ≡ (procedure_at (declarations_view declared.now) procedure).result.of }
-{
-    match declared.procedures.get(procedure as usize) {
-        Some(procedure) => procedure.result.of,
-        None => DeclaredType::Plain(ElementType::Variant),
-    }
-}
-
-/// Are there parameters?
-pub fn has_parameters(parameters: &[Parameter]) -> bool
-    ensures { result ≡ has_parameters (map parameter_view parameters.now) }
-{
-    match parameters {
-        [] => false,
-        [_first, _parameters @ ..] => true,
-    }
-}
-
-/// Must something be given to a parameter?
-fn must_be_given(parameter: &Parameter) -> bool
-    ensures { result ≡ must_be_given (parameter_view parameter.now) }
-{
-    !parameter.is_param_array && parameter.default.is_none()
-}
-
-/// Must something be given to one of these?
-fn any_must(parameters: &[Parameter]) -> bool
-    ensures { result ≡ any_must (map parameter_view parameters.now) }
-{
-    match parameters {
-        [] => false,
-        [first, parameters @ ..] => must_be_given(first) || any_must(parameters),
-    }
-}
-
-/// All parameters but the last one, which takes the value of a Property Let or Set.
-#[tactic(auto, using(crate::proofs::Passed::without_last_map))]
-pub fn without_last(parameters: &[Parameter]) -> &[Parameter]
-    ensures { map parameter_view result.now ≡ without_last (map parameter_view parameters.now) }
-{
-    match parameters {
-        [] => &[],
-        [before @ .., _last] => before,
-    }
-}
-
-/// The declared type of the value that a Property Let is given.
-fn last_type(parameters: &[Parameter]) -> DeclaredType
-    ensures { declared_view result ≡ last_type (map parameter_view parameters.now) }
-{
-    match parameters {
-        [] => DeclaredType::Plain(ElementType::Variant),
-        [last] => last.of,
-        [_first, parameters @ ..] => last_type(parameters),
-    }
-}
-
 // ---- an object as an operand gives way to the value of its default member, once
 
 /// What a procedure gives without arguments: S25 where one must be given.
@@ -195,7 +78,7 @@ fn procedure_read(declared: &Declarations, procedure: u32) -> Known
     known_or(!must, 25, result_of(declared, procedure))
 }
 
-/// What the default member of a class gives.
+/// What the default member of a class gives: S34 where it is a property without a Get.
 fn member_read(declared: &Declarations, class: u32, member: Member) -> Known
     ensures { known_view result ≡ member_read (declarations_view declared.now) (class_at (declarations_view declared.now) class) (Some (class_member_view member)) }
 {
@@ -211,7 +94,7 @@ fn member_read(declared: &Declarations, class: u32, member: Member) -> Known
             reads: None,
             lets: _,
             sets: _,
-        } => Known::NotSaid,
+        } => Known::Breaks(34),
     }
 }
 
@@ -239,24 +122,24 @@ fn other_written(of: DeclaredType) -> Known
     }
 }
 
-/// A Let takes the value where its other parameters need none; nothing is said where it takes an object itself.
+/// A Let takes the value where its other parameters need none, or S25; nothing is said where it takes an object itself.
 fn let_written(declared: &Declarations, procedure: u32) -> Known
     ensures { known_view result ≡ let_written (procedure_at (declarations_view declared.now) procedure) }
 {
     let parameters = parameters_of(declared, procedure);
-    if is_object(last_type(parameters)) || any_must(without_last(parameters)) {
-        Known::NotSaid
-    } else {
-        known_variant()
+    if is_object(last_type(parameters)) {
+        return Known::NotSaid;
     }
+    let must = any_must(without_last(parameters));
+    known_or(!must, 25, DeclaredType::Plain(ElementType::Variant))
 }
 
-/// What only gives an object passes the value on.
+/// What only gives an object passes the value on: S27 where it needs arguments for that.
 fn reader_way(declared: &Declarations, procedure: u32) -> Way
     ensures { way_view result ≡ reader_passes (procedure_at (declarations_view declared.now) procedure) }
 {
     if any_must(parameters_of(declared, procedure)) {
-        Way::Ends(Known::NotSaid)
+        Way::Ends(Known::Breaks(27))
     } else {
         Way::On(result_of(declared, procedure))
     }
@@ -273,7 +156,7 @@ fn variable_way(of: DeclaredType) -> Way
     }
 }
 
-/// What the default member of a class does with a value.
+/// What the default member of a class does with a value: S27 where it is a property that only a Set writes.
 fn member_way(declared: &Declarations, class: u32, member: Member) -> Way
     ensures { way_view result ≡ member_passes (declarations_view declared.now) (class_at (declarations_view declared.now) class) (class_member_view member) }
 {
@@ -294,7 +177,7 @@ fn member_way(declared: &Declarations, class: u32, member: Member) -> Way
             reads: None,
             lets: None,
             sets: _,
-        } => Way::Ends(Known::NotSaid),
+        } => Way::Ends(Known::Breaks(27)),
     }
 }
 

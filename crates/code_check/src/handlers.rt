@@ -1,16 +1,15 @@
 // Whether the events of classes and their handlers name what is there.
 ghost use Rattle.std.specs.Prelude.{◌≡◌, ◌↔◌, ℕ, ◌<◌, IsTrue, length, map};
 ghost use Rattle.vba_values.specs.Types as type;
-ghost use Rattle.bound_project.specs.Project.{class_at};
 ghost use Rattle.bound_project.specs.View.{class_view, declarations_view, declared_view, event_view, handler_view};
 ghost use Rattle.bound_project.specs.Whole.{All, HandlesEvent, HasProcedure, WholeHandler};
 ghost use Rattle.code_check.specs.Questions.{parameters_of_event};
 
-use bound_project::{Class, DeclaredEvent, DeclaredType, ElementType, Handler};
+use bound_project::{Class, DeclaredEvent, DeclaredType, ElementType, Handler, events_of};
 use pcode::Code;
 
-// Whether a procedure is there, with so many parameters.
-fn has_procedure(code: &Code, procedure: u32, parameters: usize) -> bool
+/// Whether a procedure is there, with so many parameters.
+pub fn has_procedure(code: &Code, procedure: u32, parameters: usize) -> bool
     ensures { IsTrue result ↔ HasProcedure (declarations_view code.now.declared) procedure parameters }
 {
     match code.declared.procedures.get(procedure as usize) {
@@ -29,25 +28,12 @@ fn parameters_of(events: &[DeclaredEvent], event: u32) -> Option<usize>
     }
 }
 
-// The same of an event of a class, which counts from 1.
-fn parameters_in(code: &Code, class: u32, event: u32) -> Option<usize>
-    ensures { result ≡ parameters_of_event (class_at (declarations_view code.now.declared) class).events event }
-{
-    if class == 0 {
-        return None;
-    }
-    match code.declared.classes.get(class as usize - 1) {
-        Some(class) => parameters_of(class.events.as_slice(), event),
-        None => None,
-    }
-}
-
 // Whether a procedure handles an event of a class.
 #[tactic(auto, using(crate::proofs::Parameters::handles_by, crate::proofs::Parameters::handles_none))]
 fn handles_class(code: &Code, class: u32, handler: Handler) -> bool
     ensures { IsTrue result ↔ HandlesEvent (declarations_view code.now.declared) (type.class class) (handler_view handler) }
 {
-    match parameters_in(code, class, handler.event) {
+    match parameters_of(events_of(&code.declared, class), handler.event) {
         Some(parameters) => has_procedure(code, handler.procedure, parameters),
         None => false,
     }

@@ -1,14 +1,15 @@
 // Whether the numbers of an instruction name what is there.
 ghost use Rattle.std.specs.Prelude.{◌≡◌, ◌↔◌, ℕ, ◌<◌, IsTrue, MatchOption, Some, option_map, slice_get};
 ghost use Rattle.vba_values.specs.View.{view};
-ghost use Rattle.bound_project.specs.Pieces.{constant_in, order_in};
+ghost use Rattle.bound_project.specs.Pieces.{constant_in};
 ghost use Rattle.bound_project.specs.View.{declarations_view, declared_view, element_view, storage_view, variable_view};
-ghost use Rattle.bound_project.specs.Whole.{All, HasProcedure, HasStorage, HasType, HasVariable, IfThere, IsConstant, variable_count};
+ghost use Rattle.bound_project.specs.Whole.{All, HasStorage, HasType, HasVariable, IfThere, IsConstant, variable_count};
 ghost use Rattle.pcode.specs.Instructions.{Begin};
 ghost use Rattle.pcode.specs.View.{code_view, instr_view, tables_of};
 ghost use Rattle.pcode.specs.WellFormed.{HasPolicy, IsStatement, IsTarget, Leads, Sound};
 ghost use Rattle.code_check.specs.Questions.{IsSound, PartIsSound, SoundAt, TablesBegin};
 
+use crate::handlers::has_procedure;
 use crate::tables::{addresses_of, entry_of, procedure_count, statement_count};
 use bound_project::{DeclaredType, ElementType, Storage, Variable};
 use error_frames::Policy;
@@ -156,15 +157,6 @@ fn has_counter(code: &Code, procedure: usize, counter: Variable, block: u32) -> 
     has_variable(code, procedure, counter) && has_statement(code, procedure, block)
 }
 
-fn has_procedure(code: &Code, procedure: u32, arguments: u32) -> bool
-    ensures { IsTrue result ↔ HasProcedure (declarations_view code.now.declared) procedure arguments }
-{
-    match code.declared.procedures.get(procedure as usize) {
-        Some(procedure) => arguments as usize == procedure.parameters.len(),
-        None => false,
-    }
-}
-
 fn are_below(numbers: &[u32], end: u32) -> bool
     ensures { IsTrue result ↔ All (λ i. i < end) numbers.now }
 {
@@ -228,7 +220,7 @@ fn is_sound(code: &Code, procedure: usize, instr: Instr) -> bool
         | Instr::CallOf {
             procedure: called,
             arguments,
-        } => has_procedure(code, called, arguments),
+        } => has_procedure(code, called, arguments as usize),
         Instr::LoopOn { counter, block, .. } | Instr::NextRound { counter, block } => has_counter(
             code, procedure, counter, block,
         ),

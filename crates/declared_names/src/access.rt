@@ -20,7 +20,7 @@ pub(crate) fn is_public(access: Option<AccessWord>) -> bool
 }
 
 /// Does the word of variables make them public?
-pub(crate) fn is_public_word(word: VariableWord) -> bool
+pub fn is_public_word(word: VariableWord) -> bool
     ensures { result ≡ is_public_word word }
 {
     match word {

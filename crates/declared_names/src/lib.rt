@@ -27,6 +27,7 @@ mod space;
 mod types;
 mod words;
 
+pub use access::is_public_word;
 pub use classes::{
     class_space, field_number, has_class, is_of_object, member_entry, own_class, reaches,
 };

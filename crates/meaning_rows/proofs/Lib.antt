@@ -1,1 +1,2 @@
 pub mod DeepRows
+mod NewArrayRows

@@ -1,4 +1,5 @@
-//! Worked rows of the meaning that are long: what they run stands in `specs/`, and a law says how that ends.
+//! Worked rows of the meaning that are long, and those of arrays declared As New: what the long ones run stands in
+//! `specs/`, and a law says how that ends.
 #![tactic(auto)]
 
 mod laws;

@@ -12,7 +12,8 @@ use Rattle.vba_meaning.specs.Objects.{set_at}
 use Rattle.vba_meaning.specs.Collections.{CollectionMember, is_item, found_or}
 use Rattle.vba_meaning.specs.Host.{as_given, member_there, member_assigned}
 use Rattle.vba_meaning.specs.ByName.{named_there}
-use Rattle.vba_meaning.specs.Defaults.{by_let, in_member, let_item, set_item, Next, over_with, is_instance, class_of_value, parameters_of, without_last, last_type, nothing_more, put, let_at, let_along, set_along, most_passed}
+use Rattle.bound_project.specs.Parameters.{parameters_of, without_last, last_type}
+use Rattle.vba_meaning.specs.Defaults.{by_let, in_member, let_item, set_item, Next, over_with, is_instance, class_of_value, nothing_more, put, let_at, let_along, set_along, most_passed}
 use Rattle.vba_meaning.specs.LateBound.{Use, reading, assigning, setting, Way, by_variable, by_call, by_setter, how_many, all_taken, given_twice, any_lacks, arguments_fit, arranged, member_named, variable_named, public_variable, way_by_name, taken_by_way, has_names, indexes, what_is_indexed, way_there, host_there, late_there, argument_tasks, value_bound, place_copied, call_way, late_called, host_arguments, let_element, let_indexed, let_plain, let_way, item_let, host_let, late_let, element_set, set_way, late_set}
 use Rattle.memory_changes.proofs.Rows.{Still, still, still_bad, still_if, Rows, fine, bad, of_still, then_same, both}
 use Rattle.memory_changes.proofs.Values.{set_object_still, set_at_rows}

@@ -11,7 +11,8 @@ use Rattle.vba_meaning.specs.Effects.{Effect, on_fine, slot_values}
 use Rattle.vba_meaning.specs.Collections.{CollectionMember, is_item, found_or}
 use Rattle.vba_meaning.specs.Host.{as_given, member_there, member_assigned}
 use Rattle.vba_meaning.specs.ByName.{named_there}
-use Rattle.vba_meaning.specs.Defaults.{by_let, in_member, let_item, set_item, Next, over_with, is_instance, class_of_value, parameters_of, without_last, last_type, nothing_more, put, most_passed}
+use Rattle.bound_project.specs.Parameters.{parameters_of, without_last, last_type}
+use Rattle.vba_meaning.specs.Defaults.{by_let, in_member, let_item, set_item, Next, over_with, is_instance, class_of_value, nothing_more, put, most_passed}
 use Rattle.vba_meaning.specs.LateBound.{Use, reading, assigning, setting, Way, by_variable, by_call, by_setter, all_taken, given_twice, any_lacks, arguments_fit, arranged, way_by_name, member_named, variable_named, public_variable, taken_by_way, has_names, indexes, what_is_indexed, way_there, host_there, late_there, how_many, argument_tasks, value_bound, place_copied, call_way, late_called, host_arguments, let_element, element_set, let_indexed, let_plain, let_way, item_let, host_let, late_let, set_way, late_set}
 use Rattle.object_counts.specs.Gains.{member_assigned_gains}
 use Rattle.object_counts.specs.UseGains.{way_gains, what_is_indexed_gains, way_there_gains, late_there_gains, value_bound_gains, place_copied_gains, call_way_gains, late_called_gains, let_element_gains, element_set_gains, let_indexed_gains, let_plain_gains, let_way_gains, item_let_gains, host_let_gains, late_let_gains, set_way_gains, late_set_gains, put_gains}

@@ -10,7 +10,8 @@ use Rattle.vba_meaning.specs.Memory.{Memory, value_at}
 use Rattle.vba_meaning.specs.Effects.{Effect, Fine, on_fine, done, set_object, slot_left_out}
 use Rattle.vba_meaning.specs.Objects.{initialize_of}
 use Rattle.vba_meaning.specs.Host.{is_counted, item_by}
-use Rattle.vba_meaning.specs.Defaults.{Spot, in_variable, by_let, in_range, in_member, Task, as_operand, no_object, give_way, walked, fit_to, index_by, write, let_item, set_item, put_in, read_made, Next, gives, then_call, over_with, goes_by, after_use, is_instance, class_of_value, variable_of, parameters_of, any_must, without_last, last_type, is_object_type, can_be_object, is_sub_kind, has_parameters, has_default_alone, read_by, read_made_by, read_variable, read_member, read_default, no_object_here, counted_operand, counted_if_any, has_items, collection_here, enumerator_of, operand_of, given_to, slots_from, slot_given, slots_in, too_many, too_few, index_default, index_member, index_once, index_along, has_array, element_by, item_along, in_place, leads_on, takes_itself, nothing_more, put_value, put, let_at, takes_value, write_host, write_default, write_member, write_once, write_along, reader_of, let_by_reader, let_setter, let_default, let_member, let_item_of, let_once, let_along, set_called_with, set_by_reader, setter_of, set_default, set_by_member, element_of, set_item_of, set_once, set_along, most_passed, task_next, followed, tasks_next, use_then}
+use Rattle.bound_project.specs.Parameters.{parameters_of, any_must, without_last, last_type, has_parameters}
+use Rattle.vba_meaning.specs.Defaults.{Spot, in_variable, by_let, in_range, in_member, Task, as_operand, no_object, give_way, walked, fit_to, index_by, write, let_item, set_item, put_in, read_made, Next, gives, then_call, over_with, goes_by, after_use, is_instance, class_of_value, variable_of, is_object_type, can_be_object, is_sub_kind, has_default_alone, read_by, read_made_by, read_variable, read_member, read_default, no_object_here, counted_operand, counted_if_any, has_items, collection_here, enumerator_of, operand_of, given_to, slots_from, slot_given, slots_in, too_many, too_few, index_default, index_member, index_once, index_along, has_array, element_by, item_along, in_place, leads_on, takes_itself, nothing_more, put_value, put, let_at, takes_value, write_host, write_default, write_member, write_once, write_along, reader_of, let_by_reader, let_setter, let_default, let_member, let_item_of, let_once, let_along, set_called_with, set_by_reader, setter_of, set_default, set_by_member, element_of, set_item_of, set_once, set_along, most_passed, task_next, followed, tasks_next, use_then}
 use Rattle.object_counts.specs.Gains.{given_gains, gains_behind}
 use Rattle.object_counts.specs.UseGains.{goes_gains, after_gains, read_made_gains, read_variable_gains, read_member_gains, read_default_gains, counted_operand_gains, counted_if_any_gains, enumerator_gains, operand_gains, index_default_gains, index_member_gains, index_once_gains, index_along_gains, item_along_gains, in_place_gains, leads_gains, put_value_gains, put_gains, write_host_gains, write_default_gains, write_member_gains, write_once_gains, write_along_gains, written_gains, let_at_gains, let_by_reader_gains, let_default_gains, let_member_gains, let_item_gains, let_once_gains, let_along_gains, set_by_reader_gains, set_default_gains, set_by_member_gains, set_once_gains, set_along_gains, task_gains, tasks_gains}
 use Rattle.object_counts.proofs.Looks.{same}

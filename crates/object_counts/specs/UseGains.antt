@@ -11,7 +11,8 @@ use Rattle.vba_meaning.specs.Effects.{Effect, read_path, slot_values, slot_left_
 use Rattle.vba_meaning.specs.Objects.{made_for, initialize_of, stored_made}
 use Rattle.vba_meaning.specs.Collections.{CollectionMember, is_item, found_or, collection_member, item_found}
 use Rattle.vba_meaning.specs.Host.{is_counted, as_given, item_by}
-use Rattle.vba_meaning.specs.Defaults.{Spot, in_variable, by_let, in_range, in_member, Task, as_operand, no_object, give_way, walked, fit_to, index_by, write, let_item, set_item, put_in, read_made, Next, gives, then_call, over_with, is_instance, class_of_value, variable_of, parameters_of, any_must, without_last, is_object_type, is_sub_kind, has_parameters, has_default_alone, read_variable, read_member, reader_of, let_setter, setter_of, slots_from, has_array, element_by, operand_of, takes_itself, takes_value, task_next, most_passed}
+use Rattle.bound_project.specs.Parameters.{parameters_of, any_must, without_last, has_parameters}
+use Rattle.vba_meaning.specs.Defaults.{Spot, in_variable, by_let, in_range, in_member, Task, as_operand, no_object, give_way, walked, fit_to, index_by, write, let_item, set_item, put_in, read_made, Next, gives, then_call, over_with, is_instance, class_of_value, variable_of, is_object_type, is_sub_kind, has_default_alone, read_variable, read_member, reader_of, let_setter, setter_of, slots_from, has_array, element_by, operand_of, takes_itself, takes_value, task_next, most_passed}
 use Rattle.vba_meaning.specs.LateBound.{Use, reading, assigning, setting, Way, by_variable, by_call, by_setter, arranged, way_by_name, indexes, argument_tasks, host_arguments}
 use Rattle.object_counts.specs.Gains.{gains_behind, given_gains, assigned_gains, made_for_gains, stored_made_gains, member_assigned_gains, set_at_gains}
 

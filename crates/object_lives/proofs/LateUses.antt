@@ -11,7 +11,8 @@ use Rattle.vba_meaning.specs.Effects.{Effect, on_fine, slot_values, slot_left_ou
 use Rattle.vba_meaning.specs.Collections.{CollectionMember, is_item, found_or}
 use Rattle.vba_meaning.specs.Host.{as_given, member_there, member_assigned}
 use Rattle.vba_meaning.specs.ByName.{named_there, value_given, values_given, names_of_member, in_parameter_order}
-use Rattle.vba_meaning.specs.Defaults.{by_let, in_member, as_operand, give_way, fit_to, let_item, set_item, Next, over_with, is_instance, class_of_value, parameters_of, without_last, last_type, can_be_object, nothing_more, put, most_passed}
+use Rattle.bound_project.specs.Parameters.{parameters_of, without_last, last_type}
+use Rattle.vba_meaning.specs.Defaults.{by_let, in_member, as_operand, give_way, fit_to, let_item, set_item, Next, over_with, is_instance, class_of_value, can_be_object, nothing_more, put, most_passed}
 use Rattle.vba_meaning.specs.LateBound.{Use, reading, assigning, setting, Way, by_variable, by_call, by_setter, all_taken, given_twice, any_lacks, arguments_fit, argument_of, slot_or_left, slot_of, arranged_from, arranged, member_named, variable_named, public_variable, get_for_object, assigned_way, get_alone, set_by, way_of, found_way, way_by_name, taken_by_way, has_names, indexes, what_is_indexed, way_there, host_there, late_there, how_many, tasks_for, parameter_for, keeps_object, argument_tasks, value_bound, place_copied, call_way, late_called, host_arguments, let_element, element_set, let_indexed, let_plain, let_way, item_let, host_let, late_let, set_way, late_set}
 use Rattle.object_lives.proofs.Values.{none_in, in_then, Refers}
 use Rattle.object_lives.proofs.Held.{Reach, bare_from, Values, PathIn, SlotIn, Slots, Tasks, slots_append, nth_slot, packed_in, slots_taken, slots_dropped, values_append, values_taken, values_dropped, values_of_slots}

@@ -17,7 +17,8 @@ use Rattle.vba_meaning.specs.Events.{source_of, sinks, due, lent_again, raise_ov
 use Rattle.vba_meaning.specs.Objects.{initialize_of, made_at}
 use Rattle.vba_meaning.specs.Host.{is_counted, is_raise, path_to}
 use Rattle.vba_meaning.specs.ByName.{in_parameter_order}
-use Rattle.vba_meaning.specs.Defaults.{Next, gives, then_call, is_instance, parameters_of, has_array, most_passed, most_calls}
+use Rattle.bound_project.specs.Parameters.{parameters_of}
+use Rattle.vba_meaning.specs.Defaults.{Next, gives, then_call, is_instance, has_array, most_passed, most_calls}
 use Rattle.vba_meaning.specs.LateBound.{lends_place, host_arguments}
 use Rattle.vba_meaning.specs.Meaning.{State, with_memory, turned}
 use Rattle.pcode.specs.Instructions.{Instr, Begin, Push, LoadErr, PathOf, ReadThrough, ElementOf, ElementIn, FieldOf, Dot, Index, PartOf, Operate, OperateAlone, Plain, PlainIfAny, Enumerate, PushHost, FirstSheet, MemberThere, MemberOf, NamedThere, NamedOf, PushThis, New, ObjectThere, FieldIn, AsNew, MakeThere, StoreMade, FindLate, BindValue, BindPlace, CallLate, LetLate, SetLate, ItemAlong, WriteThrough, LetElement, SetElement, ElementAlong, LateField, PlaceOf, Same, IsType, Library, BoundAt, Fit, FitObject, Drop, Lend, Pack, Reorder, Lift, Call, CallOf, Store, SetAt, StoreDefault, StoreMember, StoreItem, SetMember, RaiseEvent, ShowText, Show, Throw, LoopOff, LoopOn, NextRound, EachOff, EachOn, NextItem, Keep, Selected, IfFits, IfBetween, Redim, EraseAt, KeepPath, DropKept, PutReturn, TakeReturn, SetPolicy, HandlerOff, ErrOff, Again, Behind, Resumes, Finish, Branch, Halt, StopHere, Leave, Code, next_statement, entry_of}

@@ -7,7 +7,7 @@ use Rattle.vba_values.specs.Val.{Val, empty, null, missing, boolean, whole, curr
 use Rattle.bound_project.specs.Project.{Declarations, Procedure, Parameter, no_procedure}
 use Rattle.bound_project.specs.Whole.{All, IfThere, IsConstant}
 use Rattle.vba_meaning.specs.Effects.{packed, slot_left_out}
-use Rattle.vba_meaning.specs.Defaults.{parameters_of}
+use Rattle.bound_project.specs.Parameters.{parameters_of}
 use Rattle.pcode.specs.Instructions.{Push, Leave, Code, list_or}
 use Rattle.pcode.specs.WellFormed.{first_address, WellFormed}
 use Rattle.object_lives.specs.Lives.{HasPlainDefaults}

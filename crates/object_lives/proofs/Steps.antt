@@ -12,7 +12,7 @@ use Rattle.bound_project.specs.Project.{class_at, first_values}
 use Rattle.vba_meaning.specs.Memory.{Error, Ended, Faulted, Slot, value, path, value_in, value_or_empty, Memory, Frame, Object, rest, top, frame_left, result, error_here, object_at, number_or}
 use Rattle.vba_meaning.specs.References.{objects_in, objects_in_values, objects_in_slots, objects_kept, times, looks, is_last, hold, next_waiting, taken_off, as_told, gone, closed}
 use Rattle.vba_meaning.specs.Effects.{Raised, Term, unlent, taken_by, with_taken, at_number}
-use Rattle.vba_meaning.specs.Defaults.{parameters_of}
+use Rattle.bound_project.specs.Parameters.{parameters_of}
 use Rattle.vba_meaning.specs.Meaning.{State, with_memory, turned, left}
 use Rattle.pcode.specs.Instructions.{Push, Code, entry_of}
 use Rattle.pcode.specs.Machine.{After, Goes-on, Decide, Return, Back-to, Pass, Close, Mode, At, Failing, Letting, Back, Caller, EndOf, Delivering, Within, Goes, Ends, Tells, Turns, failing, letting, looking, finished_by, terminates_by, ends_by, lets_one_by, step, Config, closing, returned_by, passed_on, takes, next_by, go_on_by}

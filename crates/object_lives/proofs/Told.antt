@@ -8,7 +8,7 @@ use Rattle.bound_project.specs.Project.{Project, procedure_at}
 use Rattle.vba_meaning.specs.Memory.{Object, opening}
 use Rattle.vba_meaning.specs.References.{times}
 use Rattle.vba_meaning.specs.Effects.{Event, startup_slots}
-use Rattle.vba_meaning.specs.Defaults.{parameters_of}
+use Rattle.bound_project.specs.Parameters.{parameters_of}
 use Rattle.vba_meaning.specs.Meaning.{State, meaning}
 use Rattle.pcode.specs.Instructions.{Push, Code}
 use Rattle.pcode.specs.Layout.{code_of}

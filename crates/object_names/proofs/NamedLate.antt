@@ -14,7 +14,8 @@ use Rattle.vba_meaning.specs.Objects.{set_at}
 use Rattle.vba_meaning.specs.Collections.{CollectionMember, is_item, found_or}
 use Rattle.vba_meaning.specs.Host.{as_given, member_there, member_assigned}
 use Rattle.vba_meaning.specs.ByName.{named_there, names_of_member, parameters_given, value_given, values_given, in_parameter_order}
-use Rattle.vba_meaning.specs.Defaults.{by_let, in_member, Task, as_operand, fit_to, give_way, write, let_item, set_item, Next, gives, then_call, over_with, is_instance, is_variable_place, class_of_value, variable_of, parameters_of, without_last, last_type, can_be_object, is_sub_kind, has_parameters, index_along, tasks_next, use_then, nothing_more, put, let_at, let_along, set_along, most_passed}
+use Rattle.bound_project.specs.Parameters.{parameters_of, without_last, last_type, has_parameters}
+use Rattle.vba_meaning.specs.Defaults.{by_let, in_member, Task, as_operand, fit_to, give_way, write, let_item, set_item, Next, gives, then_call, over_with, is_instance, is_variable_place, class_of_value, variable_of, can_be_object, is_sub_kind, index_along, tasks_next, use_then, nothing_more, put, let_at, let_along, set_along, most_passed}
 use Rattle.vba_meaning.specs.LateBound.{Use, reading, assigning, setting, Way, by_variable, by_call, by_setter, how_many, parameter_of, all_taken, given_twice, any_lacks, arguments_fit, argument_of, slot_or_left, slot_of, arranged_from, arranged, member_named, get_for_object, assigned_way, get_alone, set_by, way_of, found_way, way_by_name, taken_by_way, has_names, indexes, what_is_indexed, way_there, member_there_of, host_there, late_there, parameter_by_way, parameter_for, tasks_for, keeps_object, argument_tasks, value_bound, takes_place, lends_place, place_copied, call_way, late_called, host_arguments, let_element, let_indexed, let_plain, let_way, item_let, host_let, late_let, element_set, set_way, late_set}
 use Rattle.object_names.specs.Names.{value_named, values_named, root_named, path_named, slot_named, slots_named, tasks_named, next_named}
 use Rattle.object_names.specs.Renamed.{Same}

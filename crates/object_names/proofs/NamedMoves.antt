@@ -13,7 +13,8 @@ use Rattle.vba_meaning.specs.References.{held_by}
 use Rattle.vba_meaning.specs.Effects.{Event, Raised, Effect, Fine, Bad-at, Out, Tell, slot_value, slot_values, lent}
 use Rattle.vba_meaning.specs.Events.{sinks, due, sheet_of, target_of, change}
 use Rattle.vba_meaning.specs.Host.{is_counted, is_raise}
-use Rattle.vba_meaning.specs.Defaults.{Task, Next, gives, then_call, is_instance, parameters_of, has_array, most_calls}
+use Rattle.bound_project.specs.Parameters.{parameters_of}
+use Rattle.vba_meaning.specs.Defaults.{Task, Next, gives, then_call, is_instance, has_array, most_calls}
 use Rattle.vba_meaning.specs.LateBound.{Use, lends_place, place_copied, late_called, host_arguments}
 use Rattle.vba_meaning.specs.Meaning.{State, with_memory, turned}
 use Rattle.pcode.specs.Instructions.{Code}

@@ -18,7 +18,8 @@ use Rattle.vba_meaning.specs.Host.{path_to, item_by, place_at, member_assigned, 
 use Rattle.vba_meaning.specs.ByName.{in_parameter_order}
 use Rattle.vba_meaning.specs.Arrays.{redimmed}
 use Rattle.vba_meaning.specs.Library.{library_called}
-use Rattle.vba_meaning.specs.Defaults.{parameters_of, index_along, most_passed}
+use Rattle.bound_project.specs.Parameters.{parameters_of}
+use Rattle.vba_meaning.specs.Defaults.{index_along, most_passed}
 use Rattle.vba_meaning.specs.LateBound.{value_bound, let_element, element_set, late_let, late_set}
 use Rattle.vba_meaning.specs.Meaning.{State}
 use Rattle.pcode.specs.Instructions as instr

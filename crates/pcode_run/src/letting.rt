@@ -1,10 +1,10 @@
 // References that are let go, and the ends of objects.
-ghost use Rattle.std.specs.Prelude.{◌≡◌, IfOk, OnOk, map, slice_index_or};
+ghost use Rattle.std.specs.Prelude.{◌≡◌, IfOk, OnOk};
 ghost use Rattle.vba_meaning.specs.Memory.{Object};
 ghost use Rattle.vba_meaning.specs.References.{next_waiting, taken_off};
 ghost use Rattle.vba_meaning.specs.Meaning.{with_memory};
-ghost use Rattle.bound_project.specs.View.{class_view, declarations_view};
-ghost use Rattle.bound_project.specs.Project.{class_at, no_class};
+ghost use Rattle.bound_project.specs.View.{declarations_view};
+ghost use Rattle.bound_project.specs.Project.{class_at};
 ghost use Rattle.run_memory.specs.View.{memory_view};
 ghost use Rattle.pcode.specs.Machine.{Goes, letting, finished_by, terminates_by, ends_by, lets_one_by, looking};
 ghost use Rattle.pcode.specs.View.{code_view};
@@ -12,34 +12,12 @@ ghost use Rattle.pcode_vm.specs.View.{after_view, backs_view, state_view};
 ghost use Rattle.pcode_vm.specs.Does.{Does, Comes};
 
 use crate::frames::fault;
-use bound_project::{Class, Declarations};
+use bound_project::terminate_of;
 use pcode::Code;
 use pcode_vm::{After, Back, Event, Machine, Mode, Step, StepEnd};
 use std::alloc::Global;
 use vba_base::NoMemory;
 use vba_values::{ObjId, ObjRef, Value};
-
-// The Class_Terminate of a class, by the number of the class.
-#[tactic(auto, using(crate::proofs::Waiting::class_before))]
-fn terminate_of(declared: &Declarations, class: u32) -> Option<u32>
-    ensures { result ≡ (class_at (declarations_view declared.now) class).terminate }
-{
-    if class == 0 {
-        return None;
-    }
-    terminate_at(declared.classes.as_slice(), class as usize - 1)
-}
-
-#[tactic(auto, using(crate::proofs::Waiting::class_there, crate::proofs::Waiting::class_past))]
-fn terminate_at(classes: &[Class], number: usize) -> Option<u32>
-    ensures { result ≡ (slice_index_or (map class_view classes.now) number no_class).terminate }
-{
-    if number < classes.len() {
-        classes[number].terminate
-    } else {
-        None
-    }
-}
 
 // So many waiting references are let go, and then.
 pub fn letting(machine: &mut Machine, count: usize, after: After)

@@ -13,10 +13,9 @@ ghost use Rattle.pcode_vm.specs.View.{backs_view, operands_view, state_view};
 
 use crate::machine::Machine;
 use crate::step::{Step, Why};
+use bound_project::MOST_PASSED;
 use pcode::Code;
-use run_defaults::{
-    MOST_PASSED, element_by, enumerator_of, has_array, index_along, item_along, write_along,
-};
+use run_defaults::{element_by, enumerator_of, has_array, index_along, item_along, write_along};
 use run_late::{element_set, let_element};
 use run_memory::{Path, Slot};
 use std::alloc::Global;

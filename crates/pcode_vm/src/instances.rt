@@ -18,13 +18,11 @@ ghost use Rattle.pcode_vm.specs.View.{backs_view, operands_view, state_view};
 
 use crate::machine::Machine;
 use crate::step::{Step, Why};
-use bound_project::DeclaredType;
+use bound_project::{DeclaredType, initialize_of};
 use pcode::Code;
 use run_host::{Event, Told};
 use run_memory::{Memory, Path};
-use run_objects::{
-    field_in, initialize_of, made, made_there, object_there, own_object, stored_made,
-};
+use run_objects::{field_in, made, made_there, object_there, own_object, stored_made};
 use std::alloc::Global;
 use vba_base::{NoMemory, OrMemory};
 use vba_values::{Bad, ObjId, ObjRef, Value};

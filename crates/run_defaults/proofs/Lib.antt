@@ -1,5 +1,4 @@
 pub mod Given
-pub mod ButLast
 pub mod Making
 pub mod Passing
 pub mod Going

@@ -8,7 +8,8 @@ use Rattle.vba_meaning.specs.Paths.{Path}
 use Rattle.vba_meaning.specs.Memory.{Memory}
 use Rattle.vba_meaning.specs.Effects.{Effect, Fine, Bad-at, class_of, on_fine}
 use Rattle.vba_meaning.specs.Host.{item_by}
-use Rattle.vba_meaning.specs.Defaults.{Next, gives, by_let, in_variable, slots_from, is_object_type, put, write_variable, no_object, no_object_here, walked, collection_here, over_with, after_use, is_instance, class_of_value, read_member, read_default, counted_operand, counted_if_any, enumerator_of, reads_alone, has_default_alone, index_member, write_host, write_member, let_member, let_item_of, let_setter, set_by_member, set_item_of, setter_of, parameters_of, without_last, has_parameters, reader_of, index_default, index_along, index_once, write_along, write_once, let_by_reader, let_called_with, let_default, let_along, let_once, set_by_reader, set_called_with, set_default, set_along, set_once}
+use Rattle.bound_project.specs.Parameters.{parameters_of, without_last, has_parameters}
+use Rattle.vba_meaning.specs.Defaults.{Next, gives, by_let, in_variable, slots_from, is_object_type, put, write_variable, no_object, no_object_here, walked, collection_here, over_with, after_use, is_instance, class_of_value, read_member, read_default, counted_operand, counted_if_any, enumerator_of, reads_alone, has_default_alone, index_member, write_host, write_member, let_member, let_item_of, let_setter, set_by_member, set_item_of, setter_of, reader_of, index_default, index_along, index_once, write_along, write_once, let_by_reader, let_called_with, let_default, let_along, let_once, set_by_reader, set_called_with, set_default, set_along, set_once}
 use Rattle.run_defaults.specs.Parts.{called_with, index_pass, let_pass, let_put, reader_taking, set_pass, setter_taking, taking, write_pass}
 
 -- ---- along default members

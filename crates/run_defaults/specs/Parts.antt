@@ -6,7 +6,8 @@ use Rattle.vba_meaning.specs.Paths.{Path}
 use Rattle.vba_meaning.specs.Memory.{Memory}
 use Rattle.vba_meaning.specs.Effects.{Event, Init, Effect, Fine, Bad-at, on_fine, set_object}
 use Rattle.vba_meaning.specs.Objects.{made, set_at}
-use Rattle.vba_meaning.specs.Defaults.{Next, gives, element_of, then_call, index_by, write, let_item, set_item, by_let, after_use, is_instance, parameters_of, without_last, has_parameters, most_passed, read_made_by, read_variable, read_member, operand_of, slots_from, reader_of, index_along, leads_on, nothing_more, put, write_along, let_at, let_along, set_along}
+use Rattle.bound_project.specs.Parameters.{parameters_of, without_last, has_parameters}
+use Rattle.vba_meaning.specs.Defaults.{Next, gives, element_of, then_call, index_by, write, let_item, set_item, by_let, after_use, is_instance, most_passed, read_made_by, read_variable, read_member, operand_of, slots_from, reader_of, index_along, leads_on, nothing_more, put, write_along, let_at, let_along, set_along}
 
 -- the first of values leaves, if there is one
 abbrev pub Leaves : List Val → Option Val → List Val → Type 0

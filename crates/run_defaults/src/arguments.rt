@@ -10,8 +10,8 @@ ghost use Rattle.run_memory.specs.Acts.{Acts};
 ghost use Rattle.run_memory.specs.View.{memory_view, slot_view};
 ghost use Rattle.run_defaults.specs.Parts.{Leaves};
 
-use crate::parameters::{all_left_out, any_must, can_be_object, left_out, must_be_given};
-use bound_project::{DeclaredType, Parameter};
+use crate::parameters::{all_left_out, can_be_object, left_out};
+use bound_project::{DeclaredType, Parameter, any_must, must_be_given};
 use run_memory::{Memory, Slot};
 use std::alloc::Global;
 use std::collections::VecDeque;

@@ -17,18 +17,13 @@ use crate::arguments::slots_from;
 use crate::looks::instance_in;
 use crate::members::{read_member, read_variable};
 use crate::next::{Next, calls_then};
-use crate::parameters::{has_parameters, parameters_of};
 use crate::task::Task;
-use bound_project::{Declarations, Member};
+use bound_project::{Declarations, MOST_PASSED, Member, default_of, has_parameters, parameters_of};
 use run_host::{Told, item_by};
 use run_memory::{Memory, Path, Slot};
-use run_objects::default_of;
 use std::alloc::Global;
 use vba_base::OrMemory;
 use vba_values::{Bad, ObjRef, Value};
-
-/// No more default members than these are passed in a row.
-pub const MOST_PASSED: u32 = 8;
 
 /// The procedure that reads a member.
 fn reader_of(member: Member) -> Option<u32>

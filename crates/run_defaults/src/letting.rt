@@ -13,21 +13,22 @@ ghost use Rattle.run_defaults.specs.Parts.{item_takes, let_pass, let_put, let_th
 ghost use Rattle.run_defaults.specs.View.{next_view};
 
 use crate::arguments::slots_from;
-use crate::indexing::{MOST_PASSED, reader_taking};
+use crate::indexing::reader_taking;
 use crate::looks::{instance_in, variable_of};
 use crate::members::{read_member, read_variable};
 use crate::next::{Next, calls_then};
 use crate::operands::operand_of;
-use crate::parameters::{has_parameters, parameters_of, takes_objects, without_last};
+use crate::parameters::takes_objects;
 use crate::places::{element_by, has_array};
 use crate::putting::put;
 use crate::spot::Spot;
 use crate::task::Task;
 use crate::writing::{write_along, write_next};
-use bound_project::{Declarations, Member};
+use bound_project::{
+    Declarations, MOST_PASSED, Member, default_of, has_parameters, parameters_of, without_last,
+};
 use run_host::{Told, item_by};
 use run_memory::{Memory, Path, Slot};
-use run_objects::default_of;
 use std::alloc::Global;
 use vba_base::OrMemory;
 use vba_values::{Bad, ObjRef, Value};

@@ -19,16 +19,13 @@ mod tasks;
 mod writing;
 
 pub use arguments::{packed, slots_from, values_of};
-pub use indexing::{MOST_PASSED, index_along, item_along};
+pub use indexing::{index_along, item_along};
 pub use letting::{let_along, let_at, let_in_place};
 pub use looks::{class_of_value, instance_in, is_instance, variable_of};
 pub use members::{read_member, read_variable};
 pub use next::Next;
 pub use operands::{counted_if_any, counted_operand, enumerator_of, operand_of};
-pub use parameters::{
-    all_left_out, can_be_object, has_parameters, is_object_type, is_sub, last_type, left_out,
-    must_be_given, parameters_of, without_last,
-};
+pub use parameters::{all_left_out, can_be_object, is_object_type, is_sub, left_out};
 pub use places::{element_by, has_array, is_variable_place};
 pub use putting::put;
 pub use setting::{set_along, set_in_place};

@@ -8,9 +8,8 @@ ghost use Rattle.vba_meaning.specs.Memory.{number_of};
 ghost use Rattle.vba_meaning.specs.Defaults.{class_of_value, is_bounded, is_instance, variable_of};
 ghost use Rattle.run_memory.specs.View.{memory_view, path_view};
 
-use bound_project::{Declaration, Declarations, DeclaredType, ElementType};
+use bound_project::{Declaration, Declarations, DeclaredType, ElementType, fields_of};
 use run_memory::{Memory, Path};
-use run_objects::fields_of;
 use std::alloc::Global;
 use vba_base::NoMemory;
 use vba_values::{Bound, ObjRef, Value};

@@ -17,12 +17,12 @@ ghost use Rattle.run_defaults.specs.View.{next_view};
 
 use crate::looks::variable_of;
 use crate::next::Next;
-use crate::parameters::{all_left_out, any_must, parameters_of};
+use crate::parameters::all_left_out;
 use crate::task::Task;
-use bound_project::{Declarations, Member};
+use bound_project::{Declarations, Member, any_must, default_of, initialize_of, parameters_of};
 use run_host::{Event, Told};
 use run_memory::{Memory, Path};
-use run_objects::{default_of, initialize_of, made, made_there, stored_made};
+use run_objects::{made, made_there, stored_made};
 use std::alloc::Global;
 use vba_base::{NoMemory, OrMemory};
 use vba_values::{Bad, ObjId, ObjRef, Value};

@@ -16,12 +16,12 @@ ghost use Rattle.run_defaults.specs.View.{next_view};
 use crate::looks::{instance_in, is_instance};
 use crate::members::{read_default, read_member};
 use crate::next::{Next, calls_then};
-use crate::parameters::{any_must, parameters_of};
 use crate::task::Task;
-use bound_project::{Declarations, Member};
+use bound_project::{
+    Declarations, Member, any_must, default_of, enumerator_of as enumerator_of_class, parameters_of,
+};
 use run_host::{Told, is_counted};
 use run_memory::Memory;
-use run_objects::{default_of, enumerator_of as enumerator_of_class};
 use std::alloc::Global;
 use vba_base::OrMemory;
 use vba_values::{Bad, ObjRef, Value};

@@ -6,7 +6,7 @@ ghost use Rattle.bound_project.specs.Project.{procedure_at};
 ghost use Rattle.bound_project.specs.View.{declarations_view, declared_view, parameter_view};
 ghost use Rattle.vba_meaning.specs.Memory.{value as value_slot};
 ghost use Rattle.vba_meaning.specs.Effects.{slot_left_out};
-ghost use Rattle.vba_meaning.specs.Defaults.{any_must, can_be_object, has_parameters, is_object_type, is_sub_kind, last_type, must_be_given, parameters_of, without_last};
+ghost use Rattle.vba_meaning.specs.Defaults.{can_be_object, is_object_type, is_sub_kind};
 ghost use Rattle.run_memory.specs.View.{slot_view};
 
 use crate::arguments::packed;
@@ -16,16 +16,6 @@ use std::alloc::Global;
 use vba_base::NoMemory;
 use vba_values::{VType, Value, copy_value};
 
-/// The parameters of a procedure.
-pub fn parameters_of(declared: &Declarations, procedure: u32) -> &[Parameter]
-    ensures { map parameter_view result.now ≡ parameters_of (declarations_view declared.now) procedure }
-{
-    match declared.procedures.get(procedure as usize) {
-        Some(procedure) => procedure.parameters.as_slice(),
-        None => &[],
-    }
-}
-
 /// Whether a procedure is a Sub.
 pub fn is_sub(declared: &Declarations, procedure: u32) -> bool
     ensures { result ≡ is_sub_kind (procedure_at (declarations_view declared.now) procedure).kind }
@@ -33,55 +23,6 @@ pub fn is_sub(declared: &Declarations, procedure: u32) -> bool
     match declared.procedures.get(procedure as usize) {
         Some(procedure) => matches!(procedure.kind, ProcedureKind::Sub),
         None => true,
-    }
-}
-
-/// Whether there are parameters.
-pub fn has_parameters(parameters: &[Parameter]) -> bool
-    ensures { result ≡ has_parameters (map parameter_view parameters.now) }
-{
-    match parameters {
-        [] => false,
-        [_first, _parameters @ ..] => true,
-    }
-}
-
-/// Whether something must be given to a parameter.
-pub fn must_be_given(parameter: &Parameter) -> bool
-    ensures { result ≡ must_be_given (parameter_view parameter.now) }
-{
-    !parameter.is_param_array && parameter.default.is_none()
-}
-
-/// Whether something must be given to one of these.
-pub fn any_must(parameters: &[Parameter]) -> bool
-    ensures { result ≡ any_must (map parameter_view parameters.now) }
-{
-    match parameters {
-        [] => false,
-        [first, parameters @ ..] => must_be_given(first) || any_must(parameters),
-    }
-}
-
-/// All parameters but the last one, which takes the value of a Property Let or Set.
-#[tactic(auto, using(crate::proofs::ButLast::without_last_map))]
-pub fn without_last(parameters: &[Parameter]) -> &[Parameter]
-    ensures { map parameter_view result.now ≡ without_last (map parameter_view parameters.now) }
-{
-    match parameters {
-        [] => &[],
-        [before @ .., _last] => before,
-    }
-}
-
-/// The declared type of the value that a Property Let is given.
-pub fn last_type(parameters: &[Parameter]) -> DeclaredType
-    ensures { declared_view result ≡ last_type (map parameter_view parameters.now) }
-{
-    match parameters {
-        [] => DeclaredType::Plain(ElementType::Variant),
-        [last] => last.of,
-        [_first, parameters @ ..] => last_type(parameters),
     }
 }
 

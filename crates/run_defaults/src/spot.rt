@@ -12,8 +12,8 @@ ghost use Rattle.run_host.specs.View.{told_view};
 ghost use Rattle.run_defaults.specs.View.{next_view, spot_view};
 
 use crate::next::Next;
-use crate::parameters::{is_object_type, last_type, parameters_of};
-use bound_project::Declarations;
+use crate::parameters::is_object_type;
+use bound_project::{Declarations, last_type, parameters_of};
 use run_host::{Told, member_assigned, written_default};
 use run_memory::{Memory, Path, Slot};
 use std::alloc::Global;

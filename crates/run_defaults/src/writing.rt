@@ -14,16 +14,13 @@ ghost use Rattle.run_defaults.specs.View.{next_view};
 use crate::looks::{instance_in, variable_of};
 use crate::members::read_member;
 use crate::next::{Next, calls_then};
-use crate::parameters::{
-    all_left_out, any_must, is_sub, parameters_of, takes_objects, without_last,
-};
+use crate::parameters::{all_left_out, is_sub, takes_objects};
 use crate::putting::put;
 use crate::spot::{Spot, default_written};
 use crate::task::Task;
-use bound_project::{Declarations, Member};
+use bound_project::{Declarations, Member, any_must, default_of, parameters_of, without_last};
 use run_host::Told;
 use run_memory::Memory;
-use run_objects::default_of;
 use std::alloc::Global;
 use vba_base::OrMemory;
 use vba_values::{Bad, HostRef, ObjRef, Value, copy_value};

@@ -6,9 +6,8 @@ ghost use Rattle.run_events.specs.Sought.{due_from, found_with};
 ghost use Rattle.run_memory.specs.View.{memory_view};
 
 use crate::links::stands;
-use bound_project::{Declarations, Handler};
+use bound_project::{Declarations, Handler, handlers_of};
 use run_memory::Memory;
-use run_objects::handlers_of;
 use vba_events::Linked;
 use vba_values::{ObjId, ObjRef};
 

@@ -2,7 +2,6 @@ pub mod Flags
 pub mod Taken
 pub mod Arranged
 pub mod Uses
-pub mod Members
 pub mod Bound
 pub mod Assigned
 pub mod Set

@@ -7,7 +7,8 @@ use Rattle.bound_project.specs.Project.{Declarations, Parameter, is_property, is
 use Rattle.vba_meaning.specs.Paths.{Path}
 use Rattle.vba_meaning.specs.Memory.{Memory, Slot}
 use Rattle.vba_meaning.specs.Effects.{Fine, slot_values}
-use Rattle.vba_meaning.specs.Defaults.{gives, has_parameters, index_along, most_passed, parameters_of, read_variable, then_call, variable_of, without_last}
+use Rattle.bound_project.specs.Parameters.{has_parameters, parameters_of, without_last}
+use Rattle.vba_meaning.specs.Defaults.{gives, index_along, most_passed, read_variable, then_call, variable_of}
 use Rattle.vba_meaning.specs.LateBound.{Use, reading, assigning, setting, Way, by_variable, by_call, by_setter, assigned_way, call_way, get_alone, get_for_object, indexes, set_by, way_of, what_is_indexed}
 use Rattle.run_late.specs.Parts.{called_at, is_read}
 

@@ -11,7 +11,8 @@ use Rattle.vba_meaning.specs.Objects.{set_at}
 use Rattle.vba_meaning.specs.Collections.{collection_member, item_found}
 use Rattle.vba_meaning.specs.Host.{as_given, member_assigned, member_there}
 use Rattle.vba_meaning.specs.ByName.{named_there}
-use Rattle.vba_meaning.specs.Defaults.{Next, by_let, gives, in_member, is_instance, last_type, most_passed, nothing_more, over_with, parameters_of, put, read_variable, set_along, then_call, without_last, write, write_along}
+use Rattle.bound_project.specs.Parameters.{last_type, parameters_of, without_last}
+use Rattle.vba_meaning.specs.Defaults.{Next, by_let, gives, in_member, is_instance, most_passed, nothing_more, over_with, put, read_variable, set_along, then_call, write, write_along}
 use Rattle.vba_meaning.specs.LateBound.{Use, reading, Way, by_variable, by_call, by_setter, arguments_fit, arranged, element_set, has_names, how_many, item_let}
 
 -- a member of the host or of a Collection is looked up

@@ -10,8 +10,7 @@ ghost use Rattle.run_late.specs.View.{given_view, names_view};
 
 use crate::names::{is_among, name_at, name_given, place_of_name};
 use crate::sought::{Sought, first_given, is_given_at};
-use bound_project::Parameter;
-use run_defaults::must_be_given;
+use bound_project::{Parameter, must_be_given};
 use run_host::NamedArguments;
 use vba_base::OrMemory;
 use vba_values::Bad;

@@ -1,8 +1,7 @@
 // The members of classes, by their names.
-ghost use Rattle.std.specs.Prelude.{◌≡◌, None, if◌then◌else◌, map, option_map, slice_index_or};
+ghost use Rattle.std.specs.Prelude.{◌≡◌, None, if◌then◌else◌, map, option_map};
 ghost use Rattle.vba_values.specs.View.{view};
-ghost use Rattle.bound_project.specs.Project.{class_at, no_class};
-ghost use Rattle.bound_project.specs.View.{class_member_view, class_view, declarations_view, named_view};
+ghost use Rattle.bound_project.specs.View.{class_member_view, declarations_view, named_view};
 ghost use Rattle.vba_meaning.specs.Defaults.{class_of_value, is_instance};
 ghost use Rattle.vba_meaning.specs.LateBound.{member_named, public_variable, variable_named, way_by_name};
 ghost use Rattle.run_memory.specs.Acts.{Acts};
@@ -12,33 +11,12 @@ ghost use Rattle.run_late.specs.View.{given_view, way_view};
 
 use crate::sought::{Sought, how_many};
 use crate::ways::{Way, way_of};
-use bound_project::{Class, Declarations, LateUse, Member, NamedMember};
+use bound_project::{Declarations, LateUse, Member, NamedMember, members_of};
 use run_defaults::{class_of_value, is_instance, variable_of};
 use run_memory::{Memory, Path};
 use std::alloc::Global;
 use vba_base::OrMemory;
 use vba_values::{Bad, ObjRef, Value};
-
-/// The public members of a class.
-#[tactic(auto, using(run_objects::proofs::Numbered::class_before))]
-fn members_of(declared: &Declarations, class: u32) -> &[NamedMember]
-    ensures { map named_view result.now ≡ (class_at (declarations_view declared.now) class).members }
-{
-    if class == 0 {
-        return &[];
-    }
-    members_at(declared.classes.as_slice(), class as usize - 1)
-}
-
-#[tactic(auto, using(crate::proofs::Members::members_there, run_objects::proofs::Numbered::class_past))]
-fn members_at(classes: &[Class], number: usize) -> &[NamedMember]
-    ensures { map named_view result.now ≡ (slice_index_or (map class_view classes.now) number no_class).members }
-{
-    match classes.get(number) {
-        Some(class) => class.members.as_slice(),
-        None => &[],
-    }
-}
 
 /// The member with a folded name.
 fn member_named(members: &[NamedMember], name: &[u16]) -> Option<Member>

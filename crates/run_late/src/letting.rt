@@ -20,11 +20,10 @@ use crate::calling::host_arguments;
 use crate::classes::way_by_name;
 use crate::sought::Sought;
 use crate::ways::{Way, indexes};
-use bound_project::{Declarations, LateUse};
+use bound_project::{Declarations, LateUse, MOST_PASSED, parameters_of, without_last};
 use run_collections::{CollectionMember, collection_member, item_found};
 use run_defaults::{
-    MOST_PASSED, Next, Spot, Task, is_instance, let_along, let_at, let_in_place, parameters_of,
-    put, variable_of, without_last, write_along,
+    Next, Spot, Task, is_instance, let_along, let_at, let_in_place, put, variable_of, write_along,
 };
 use run_host::{NamedArguments, Told, as_given, member_assigned};
 use run_memory::{Memory, Path, Slot};

@@ -20,11 +20,8 @@ use crate::beginning::set_refused;
 use crate::classes::way_by_name;
 use crate::sought::Sought;
 use crate::ways::{Way, indexes};
-use bound_project::{Declarations, LateUse};
-use run_defaults::{
-    MOST_PASSED, Next, is_instance, last_type, parameters_of, set_along, set_in_place, variable_of,
-    without_last,
-};
+use bound_project::{Declarations, LateUse, MOST_PASSED, last_type, parameters_of, without_last};
+use run_defaults::{Next, is_instance, set_along, set_in_place, variable_of};
 use run_host::{NamedArguments, Told};
 use run_memory::{Memory, Path, Slot};
 use std::alloc::Global;

@@ -1,18 +1,21 @@
 // What does a use of a member: a variable, a procedure that is called, or a Let or Set.
 ghost use Rattle.std.specs.Prelude.{◌≡◌, ◌&&◌, ℕ, Option, map, nat_lt, not, option_map};
 ghost use Rattle.vba_values.specs.Val.{Val};
-ghost use Rattle.bound_project.specs.Project.{Declarations as PlainDeclarations, is_procedure, is_property, is_variable, procedure_at};
-ghost use Rattle.bound_project.specs.View.{class_member_view, declarations_view, declared_view, parameter_view};
+ghost use Rattle.bound_project.specs.Project.{Declarations as PlainDeclarations, is_procedure, is_property, is_variable};
+ghost use Rattle.bound_project.specs.View.{class_member_view, declarations_view, parameter_view};
 ghost use Rattle.vba_meaning.specs.Memory.{Memory as PlainMemory};
 ghost use Rattle.vba_meaning.specs.LateBound.{Use, assigned_way, can_index_what, get_alone, get_for_object, indexes, reading, set_by, taken_by_way, way_of};
-ghost use Rattle.vba_meaning.specs.Defaults.{has_parameters};
+ghost use Rattle.bound_project.specs.Parameters.{has_parameters};
 ghost use Rattle.pcode.specs.View.{use_view};
 ghost use Rattle.run_late.specs.View.{given_view, names_view, way_view};
 
 use crate::names::has_names;
 use crate::sought::{Sought, how_many};
-use bound_project::{Declarations, DeclaredType, ElementType, LateUse, Member, Parameter};
-use run_defaults::{can_be_object, has_parameters, is_sub, parameters_of, without_last};
+use bound_project::{
+    Declarations, LateUse, Member, Parameter, has_parameters, parameters_of, result_of,
+    without_last,
+};
+use run_defaults::{can_be_object, is_sub};
 
 /// What does a use: a variable of the object, which may be declared As New; a procedure or Get that is called, and then
 /// what it gives is used; a Let or Set, whose last parameter takes the value.
@@ -21,16 +24,6 @@ pub enum Way {
     Variable { field: u32, makes: Option<u32> },
     Call { procedure: u32, is_get: bool },
     Setter { procedure: u32 },
-}
-
-/// The declared type of what a procedure gives.
-fn result_of(declared: &Declarations, procedure: u32) -> DeclaredType
-    ensures { declared_view result ≡ (procedure_at (declarations_view declared.now) procedure).result.of }
-{
-    match declared.procedures.get(procedure as usize) {
-        Some(procedure) => procedure.result.of,
-        None => DeclaredType::Plain(ElementType::Variant),
-    }
 }
 
 /// Whether arguments are given to what takes none.

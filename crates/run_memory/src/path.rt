@@ -61,8 +61,8 @@ pub struct Step {
 }
 
 /// A path to a value: to a variable, then to fields and elements inside it. It has the declared type of what is there,
-/// whether that is an array declared with bounds, and the class of which an object is made where it is read while it has
-/// Nothing, if it is declared As New.
+/// whether that is an array declared with bounds, and the class of which an object is made where it, or an element of it,
+/// is read while it has Nothing, if it is declared As New.
 pub struct Path {
     pub root: Root,
     pub steps: Vec<Step>,
@@ -208,7 +208,6 @@ impl Path {
         })?;
         self.of = of;
         self.is_bounded = false;
-        self.makes = None;
         Ok(())
     }
 

@@ -1,3 +1,3 @@
-pub mod Numbered
+pub mod NewObjects
 pub mod Objects
 pub mod Making

@@ -13,8 +13,7 @@ ghost use Rattle.run_memory.specs.Looks.{object_here};
 ghost use Rattle.run_memory.specs.View.{memory_view, object_view, path_view};
 ghost use Rattle.run_objects.specs.Made.{makes_there};
 
-use crate::classes::{fields_of, with_events_of};
-use bound_project::{Declarations, DeclaredType};
+use bound_project::{Declarations, DeclaredType, fields_of, with_events_of};
 use run_memory::{Memory, Object, Path, first_values};
 use std::alloc::Global;
 use vba_base::{NoMemory, OrMemory};

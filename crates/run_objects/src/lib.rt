@@ -2,10 +2,6 @@
 //! `specs/` of vba_meaning.
 #![tactic(auto)]
 
-mod classes;
 mod instances;
 
-pub use classes::{
-    default_of, enumerator_of, fields_of, handlers_of, initialize_of, with_events_of,
-};
 pub use instances::{field_in, made, made_there, object_there, own_object, stored_made};

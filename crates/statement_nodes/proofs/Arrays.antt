@@ -13,18 +13,17 @@ use Rattle.bound_project.specs.Expressions.{Lvalue, Exprs, no_exprs, also}
 use Rattle.bound_project.specs.Statements.{Resizes, resize, Arrays, an_array}
 use Rattle.bound_project.specs.Pieces.{Piece, an_expr, a_place, a_resize, an_erased, of_place, of_place_found, exprs_off, resizes_off, arrays_off}
 use Rattle.bound_project.specs.Drafts.{Drafted}
-use Rattle.bound_project.specs.View.{declared_view}
 use Rattle.bound_calls.specs.bound_declarations.specs.constant_values.specs.declared_names.specs.binder.specs.Sources.{base_of}
 use Rattle.bound_calls.specs.bound_declarations.specs.constant_values.specs.declared_names.specs.binder.specs.Options.{from_two, from_three}
 use Rattle.bound_calls.specs.bound_declarations.specs.constant_values.specs.declared_names.specs.binder.specs.Constants.{place_of_expression}
 use Rattle.bound_calls.specs.bound_forms.specs.Terms.{Env}
-use Rattle.bound_calls.specs.bound_forms.specs.Terms as terms
-use Rattle.bound_calls.specs.bound_forms.specs.ExpressionsBound.{bound_operand, term_of, place_told}
-use Rattle.bound_calls.specs.bound_forms.specs.StatementsBound.{integer, last_broken, may_resize, redim_bounds, redim_type, redim_arrays, resized_by, place_in, erased_arrays}
+use Rattle.bound_calls.specs.bound_forms.specs.Operands.{place_told}
+use Rattle.bound_calls.specs.bound_forms.specs.ExpressionsBound.{bound_operand, term_of}
+use Rattle.bound_calls.specs.bound_forms.specs.StatementsBound.{integer, last_broken, may_resize, redim_bounds, redim_type, redim_arrays, resized_by, resized_place, place_in, erased_arrays}
 use Rattle.statement_nodes.specs.Pushed.{PlacePushed}
 use Rattle.statement_nodes.specs.Actions.{ValuePushed}
 use Rattle.statement_nodes.specs.Reads.{ItemPushed, Read}
-use Rattle.statement_nodes.specs.Resizing.{ArrayTold, MarksBounds}
+use Rattle.statement_nodes.specs.Resizing.{ArrayTold, MarksBounds, is_resized}
 use Rattle.statement_nodes.proofs.Items.{made_of_two, made_of_three, read_begins, read_more}
 
 -- ---- bounds
@@ -102,18 +101,20 @@ resizes_begin all d = read_begins Resizes resizes_off all d (λ st a. refl)
 
 -- an array with its bounds
 resized : (env : Env) (a : ReDimArray) (rest : List ReDimArray) (of : Option Declared) (x : Lvalue) (es : Exprs) → of ≡ redim_type env a.type_clause
-    → place_in (term_of env a.place) ≡ Some x → redim_bounds env (all_of a.dims) ≡ Some es
+    → resized_place (place_told a.place) (term_of env a.place) ≡ x → redim_bounds env (all_of a.dims) ≡ Some es
     → redim_arrays env (a ∷ rest) ≡ option_map (resize x (resized_by env a es) of) (redim_arrays env rest)
 resized env a rest of x es of_is place bounds =
-    made_of_three (λ y fs rs. resize y (resized_by env a fs) (redim_type env a.type_clause) rs) (place_in (term_of env a.place)) x (redim_bounds env (all_of a.dims)) es (redim_arrays env rest) place bounds
-    ∙ ap (λ (t : Option Declared). option_map (resize x (resized_by env a es) t) (redim_arrays env rest)) (sym of_is)
+    made_of_two (λ fs rs. resize (resized_place (place_told a.place) (term_of env a.place)) (resized_by env a fs) (redim_type env a.type_clause) rs) (redim_bounds env (all_of a.dims)) es
+    (redim_arrays env rest) bounds
+    ∙ (ap (λ (y : Lvalue). option_map (resize y (resized_by env a es) (redim_type env a.type_clause)) (redim_arrays env rest)) place
+    ∙ ap (λ (t : Option Declared). option_map (resize x (resized_by env a es) t) (redim_arrays env rest)) (sym of_is))
 
 -- the bounds that it gets, by its type and the written one
-bounds_got : (env : Env) (a : ReDimArray) (of : Option Declared) (x : terms.Term) (place : Place) (es : Exprs) → of ≡ redim_type env a.type_clause
-    → ((written : Option Declared) → may_resize (term_of env a.place) written ≡ may_resize x written) → place ≡ place_told a.place
-    → (if may_resize x of then es else last_broken place es) ≡ resized_by env a es
-bounds_got env a of x place es of_is resizes place_is =
-    ap (λ (t : Option Declared). if may_resize x t then es else last_broken place es) of_is
+bounds_got : (env : Env) (a : ReDimArray) (of : Option Declared) (own : Option DeclaredType) (place : Place) (es : Exprs) → of ≡ redim_type env a.type_clause
+    → ((written : Option Declared) → may_resize (term_of env a.place) written ≡ is_resized own written) → place ≡ place_told a.place
+    → (if is_resized own of then es else last_broken place es) ≡ resized_by env a es
+bounds_got env a of own place es of_is resizes place_is =
+    ap (λ (t : Option Declared). if is_resized own t then es else last_broken place es) of_is
     ∙ (ap (λ (b : Bool). if b then es else last_broken place es) (sym (resizes (redim_type env a.type_clause)))
     ∙ ap (λ (p : Place). if may_resize (term_of env a.place) (redim_type env a.type_clause) then es else last_broken p es) place_is)
 
@@ -122,19 +123,19 @@ resize_made : (make : Lvalue → Exprs → Piece) (found : Option (Exprs × List
     → of_place_found make found ≡ make x es ∷ below
 resize_made make found x es below is = rw is
 
-pub array_pushed : (env : Env) (a : ReDimArray) (rest : List ReDimArray) (of : Option Declared) (own : DeclaredType) (place : Place) (count : ℕ) (d e f m g : Drafted)
+pub array_pushed : (env : Env) (a : ReDimArray) (rest : List ReDimArray) (of : Option Declared) (own : Option DeclaredType) (place : Place) (count : ℕ) (d e f m g : Drafted)
     → of ≡ redim_type env a.type_clause → ArrayTold env a.place own place d e
     → Read Exprs exprs_off (redim_bounds env (all_of a.dims)) (Some no_exprs) count e f → MarksBounds own of place count f m
     → g ≡ record m { pieces = of_place_found (λ x es. a_resize x es of) (exprs_off count m.pieces no_exprs) }
     → ItemPushed Resizes resizes_off (redim_arrays env (a ∷ rest)) (redim_arrays env rest) d g
 array_pushed env a rest of own place count d e f m g of_is p r b is =
     let made = r.make no_exprs in
-    let got = if may_resize (terms.a_place p.at (declared_view own) p.bounded p.lends p.makes) of then made else last_broken place made in
+    let got = if is_resized own of then made else last_broken place made in
     let es = resized_by env a made in
     let taken : exprs_off count f.pieces no_exprs ≡ Some (made, a_place p.at ∷ d.pieces) = r.taken no_exprs ∙ ap (λ (ps : List Piece). Some (made, ps)) p.on_top in
-    let marked : exprs_off count m.pieces no_exprs ≡ Some (got, a_place p.at ∷ d.pieces) = b.stands p.at p.bounded p.lends p.makes made (a_place p.at ∷ d.pieces) taken in
+    let marked : exprs_off count m.pieces no_exprs ≡ Some (got, a_place p.at ∷ d.pieces) = b.stands made (a_place p.at ∷ d.pieces) taken in
     let whole : exprs_off count m.pieces no_exprs ≡ Some (es, a_place p.at ∷ d.pieces) =
-    marked ∙ ap (λ (fs : Exprs). Some (fs, a_place p.at ∷ d.pieces)) (bounds_got env a of (terms.a_place p.at (declared_view own) p.bounded p.lends p.makes) place made of_is p.resizes p.place_is) in
+    marked ∙ ap (λ (fs : Exprs). Some (fs, a_place p.at ∷ d.pieces)) (bounds_got env a of own place made of_is p.resizes p.place_is) in
     record {
       same = record {
         statements = ap (λ (x : Drafted). x.statements) is ∙ (b.same.statements ∙ (r.same.statements ∙ p.grown.statements));

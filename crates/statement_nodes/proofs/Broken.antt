@@ -24,7 +24,8 @@ use Rattle.bound_calls.specs.bound_declarations.specs.constant_values.specs.decl
 use Rattle.bound_calls.specs.bound_declarations.specs.constant_values.specs.declared_names.specs.binder.specs.Types.{is_object}
 use Rattle.bound_calls.specs.bound_declarations.specs.constant_values.specs.declared_names.specs.binder.specs.Numbering.{Opened, Standing}
 use Rattle.bound_calls.specs.bound_forms.specs.Terms.{Env, broken_rule}
-use Rattle.bound_calls.specs.bound_forms.specs.ExpressionsBound.{bound_as_given, place_told}
+use Rattle.bound_calls.specs.bound_forms.specs.Operands.{place_told}
+use Rattle.bound_calls.specs.bound_forms.specs.ExpressionsBound.{bound_as_given}
 use Rattle.bound_calls.specs.bound_forms.specs.StatementsBound.{if_broken, cannot_count, is_counting, goes_over, for_each_of, walked, line_of, counter_of, loop_name, loop_variable}
 use Rattle.vba_words.specs.declared.identifier.Identifier.{Identifier}
 use Rattle.vba_expression.specs.Tree.{Expr}

@@ -17,26 +17,33 @@ use Rattle.bound_calls.specs.bound_declarations.specs.constant_values.specs.decl
 use Rattle.bound_calls.specs.bound_forms.specs.Terms as terms
 use Rattle.bound_calls.specs.bound_forms.specs.StatementsBound.{last_broken, may_resize}
 use Rattle.bound_calls.specs.Calls.{node_of}
-use Rattle.statement_nodes.specs.Resizing.{MarksBounds}
+use Rattle.statement_nodes.specs.Resizing.{MarksBounds, is_resized}
 
 -- ---- what is resized, by its type
 
-pub resizes_array : (of : DeclaredType) (element : ElementType) (written : Option Declared) (x : Lvalue) (bounded lends makes found : Bool) → of ≡ ArrayOf element
-    → found ≡ may_resize (terms.a_place x (declared_view (ArrayOf element)) bounded lends makes) written → found ≡ may_resize (terms.a_place x (declared_view of) bounded lends makes) written
-resizes_array of element written x bounded lends makes found is found_is = found_is ∙ ap (λ (u : DeclaredType). may_resize (terms.a_place x (declared_view u) bounded lends makes) written) (sym is)
+pub resizes_array : (of : DeclaredType) (element : ElementType) (written : Option Declared) (found : Bool) → of ≡ ArrayOf element
+    → found ≡ is_resized (Some (ArrayOf element)) written → found ≡ is_resized (Some of) written
+resizes_array of element written found is found_is = found_is ∙ ap (λ (u : DeclaredType). is_resized (Some u) written) (sym is)
 
 -- what is no array is resized where it is a Variant
-plain_resizes : (element : ElementType) (written : Option Declared) (x : Lvalue) (bounded lends makes : Bool)
-    → is_variant (element_view element) ≡ may_resize (terms.a_place x (element_view element) bounded lends makes) written
-plain_resizes Variant written x bounded lends makes = refl
-plain_resizes element written x bounded lends makes = refl
+plain_resizes : (element : ElementType) (written : Option Declared) → is_variant (element_view element) ≡ is_resized (Some (Plain element)) written
+plain_resizes Variant written = refl
+plain_resizes element written = refl
 
-pub resizes_plain : (of : DeclaredType) (element : ElementType) (written : Option Declared) (x : Lvalue) (bounded lends makes found : Bool) → of ≡ Plain element
-    → found ≡ is_variant (declared_view of) → found ≡ may_resize (terms.a_place x (declared_view of) bounded lends makes) written
-resizes_plain of element written x bounded lends makes found is found_is =
+pub resizes_plain : (of : DeclaredType) (element : ElementType) (written : Option Declared) (found : Bool) → of ≡ Plain element
+    → found ≡ is_variant (declared_view of) → found ≡ is_resized (Some of) written
+resizes_plain of element written found is found_is =
     found_is
     ∙ (ap (λ (u : DeclaredType). is_variant (declared_view u)) is
-    ∙ (plain_resizes element written x bounded lends makes ∙ ap (λ (u : DeclaredType). may_resize (terms.a_place x (declared_view u) bounded lends makes) written) (sym is)))
+    ∙ (plain_resizes element written ∙ ap (λ (u : DeclaredType). is_resized (Some u) written) (sym is)))
+
+-- whatever place it is
+pub resized_any : (of : DeclaredType) (written : Option Declared) (x : Lvalue) (bounds : ℕ) (lends makes : Bool)
+    → may_resize (terms.a_place x (declared_view of) bounds lends makes) written ≡ is_resized (Some of) written
+resized_any (ArrayOf element) None x bounds lends makes = refl
+resized_any (ArrayOf element) (Some w) x bounds lends makes = refl
+resized_any (Plain Variant) written x bounds lends makes = refl
+resized_any (Plain element) written x bounds lends makes = refl
 
 -- ---- the last bound
 
@@ -67,28 +74,27 @@ none_there : (place : Place) (fits : Bool) (ps below : List Piece) (es : Exprs) 
 none_there place true ps below es is = is
 none_there place false ps below es is = is ∙ ap (λ (fs : Exprs). Some (fs, below)) (broken_none place es (ap found_in is))
 
-pub none_marked : (of : DeclaredType) (written : Option Declared) (place : Place) (count : ℕ) (d : Drafted) → count ≡ 0 → MarksBounds of written place count d d
+pub none_marked : (of : Option DeclaredType) (written : Option Declared) (place : Place) (count : ℕ) (d : Drafted) → count ≡ 0 → MarksBounds of written place count d d
 none_marked of written place count d none =
     subst (λ (n : ℕ). MarksBounds of written place n d d) (sym none) (record {
       same = record { statements = refl; bodies = refl };
-      stands = λ at bounded lends makes es below is. none_there place (may_resize (terms.a_place at (declared_view of) bounded lends makes) written) d.pieces below es is;
+      stands = λ es below is. none_there place (is_resized of written) d.pieces below es is;
     })
 
-pub resizing_marked : (of : DeclaredType) (written : Option Declared) (place : Place) (count : ℕ) (d : Drafted) → ((at : Lvalue) (bounded lends makes : Bool) → may_resize (terms.a_place at (declared_view of) bounded lends makes) written ≡ true)
+pub resizing_marked : (of : Option DeclaredType) (written : Option Declared) (place : Place) (count : ℕ) (d : Drafted) → is_resized of written ≡ true
     → MarksBounds of written place count d d
 resizing_marked of written place count d fits = record {
   same = record { statements = refl; bodies = refl };
-  stands = λ at bounded lends makes es below is. is ∙ ap (λ (b : Bool). Some (if b then es else last_broken place es, below)) (sym (fits at bounded lends makes));
+  stands = λ es below is. is ∙ ap (λ (b : Bool). Some (if b then es else last_broken place es, below)) (sym fits);
 }
 
-pub other_marked : (of : DeclaredType) (written : Option Declared) (place : Place) (count : ℕ) (d e : Drafted) → count ≢ 0
-    → ((at : Lvalue) (bounded lends makes : Bool) → may_resize (terms.a_place at (declared_view of) bounded lends makes) written ≡ false)
+pub other_marked : (of : Option DeclaredType) (written : Option Declared) (place : Place) (count : ℕ) (d e : Drafted) → count ≢ 0 → is_resized of written ≡ false
     → e ≡ record d { pieces = put d.tables (node_of (node.Marked (record { rule = 27; place = place }) 1) place (Plain Variant)) d.pieces }
     → MarksBounds of written place count d e
 other_marked of written place count d e some fits is =
     let n = node_of (node.Marked (record { rule = 27; place = place }) 1) place (Plain Variant) in
     subst (λ (x : Drafted). MarksBounds of written place count d x) (sym is) (record {
       same = record { statements = refl; bodies = refl };
-      stands = λ at bounded lends makes es below taken.
-          bound_marked d.tables place count d.pieces es below some taken ∙ ap (λ (b : Bool). Some (if b then es else last_broken place es, below)) (sym (fits at bounded lends makes));
+      stands = λ es below taken.
+          bound_marked d.tables place count d.pieces es below some taken ∙ ap (λ (b : Bool). Some (if b then es else last_broken place es, below)) (sym fits);
     })

@@ -17,7 +17,8 @@ use Rattle.bound_project.specs.Pieces.{an_expr, put}
 use Rattle.bound_project.specs.Drafts.{Drafted}
 use Rattle.bound_project.specs.View.{declared_view, element_view}
 use Rattle.bound_calls.specs.bound_forms.specs.Terms.{Env, broken_rule, expression_of}
-use Rattle.bound_calls.specs.bound_forms.specs.ExpressionsBound.{given_as, may_be_instance, place_told, term_of}
+use Rattle.bound_calls.specs.bound_forms.specs.Operands.{given_as, may_be_instance, place_told}
+use Rattle.bound_calls.specs.bound_forms.specs.ExpressionsBound.{term_of}
 use Rattle.bound_calls.specs.bound_forms.specs.StatementsBound.{walked}
 use Rattle.bound_calls.specs.declared.term.Tree.{Tree}
 use Rattle.bound_calls.specs.Calls.{node_of}

@@ -24,8 +24,10 @@ use Rattle.bound_calls.specs.bound_declarations.specs.constant_values.specs.decl
 use Rattle.bound_calls.specs.bound_declarations.specs.constant_values.specs.declared_names.specs.binder.specs.Constants.{compare_in, place_of_expression}
 use Rattle.bound_calls.specs.bound_declarations.specs.constant_values.specs.declared_names.specs.binder.specs.Numbering.{Opened, Standing, Sought, here, an_arm, behind_block, sought_behind}
 use Rattle.bound_calls.specs.bound_forms.specs.Terms as terms
-use Rattle.bound_calls.specs.bound_forms.specs.ExpressionsBound.{bound_as_given, bound_operand, givens, may_be_instance, term_of, place_told}
-use Rattle.bound_calls.specs.bound_forms.specs.StatementsBound.{Around, assigned_to, called_place, called_with, event_arguments, event_raised, redim_arrays, erased_arrays, value_shown, items_shown, ends_line, simple_action, block_action, loop_variable, if_broken, cannot_count, for_each_of, is_other_name, name_place, loop_name, next_action, set_given, loop_action, for_action, step_value, step_place, case_tests, selected, line_of, value_given, walked, with_action}
+use Rattle.bound_calls.specs.bound_forms.specs.Operands.{may_be_instance, place_told}
+use Rattle.bound_calls.specs.bound_forms.specs.ExpressionsBound.{bound_as_given, bound_operand, givens, term_of}
+use Rattle.bound_calls.specs.bound_forms.specs.Targets.{assigned_to, set_given, value_given}
+use Rattle.bound_calls.specs.bound_forms.specs.StatementsBound.{Around, called_place, called_with, event_arguments, event_raised, redim_arrays, erased_arrays, value_shown, items_shown, ends_line, simple_action, block_action, loop_variable, if_broken, cannot_count, for_each_of, is_other_name, name_place, loop_name, next_action, loop_action, for_action, step_value, step_place, case_tests, selected, line_of, walked, with_action}
 use Rattle.bound_calls.specs.bound_declarations.specs.constant_values.specs.declared_names.specs.binder.specs.Blocks.{header_of}
 use Rattle.bound_calls.specs.Standing.{PushedIs}
 

@@ -1,12 +1,9 @@
 //! What ReDim gives to arrays that may not get it.
 
-ghost use Rattle.std.specs.Prelude.{◌≡◌, Bool, OnOk, option_map};
-ghost use Rattle.bound_calls.specs.bound_forms.specs.StatementsBound as plain;
-ghost use Rattle.bound_calls.specs.bound_forms.specs.Terms as terms;
+ghost use Rattle.std.specs.Prelude.{◌≡◌, Some, OnOk, option_map};
 ghost use Rattle.bound_project.specs.DraftView.{draft_view};
-ghost use Rattle.bound_project.specs.Expressions.{Lvalue};
 ghost use Rattle.bound_project.specs.View.{declared_view};
-ghost use Rattle.statement_nodes.specs.Resizing.{MarksBounds};
+ghost use Rattle.statement_nodes.specs.Resizing.{MarksBounds, is_resized};
 
 use bound_calls::{is_same_declared, is_variant, push_node};
 use bound_project::{DeclaredType, Draft, ElementType, NodeKind};
@@ -14,8 +11,7 @@ use vba_base::{NoMemory, Place, Refusal};
 
 /// Are these the elements that an array has, where any are written?
 fn are_elements(element: ElementType, written: Option<DeclaredType>) -> bool
-    ensures { (x : Lvalue) (bounded lends makes : Bool)
-        → result ≡ plain.may_resize (terms.a_place x (declared_view (DeclaredType.ArrayOf element)) bounded lends makes) (option_map declared_view written) }
+    ensures { result ≡ is_resized (Some (DeclaredType.ArrayOf element)) (option_map declared_view written) }
 {
     match written {
         None => true,
@@ -26,7 +22,7 @@ fn are_elements(element: ElementType, written: Option<DeclaredType>) -> bool
 /// Does a place of a type get such elements, where any are written?
 #[tactic(auto, using(crate::proofs::Resizing::resizes_array, crate::proofs::Resizing::resizes_plain))]
 fn may_resize(of: DeclaredType, written: Option<DeclaredType>) -> bool
-    ensures { (x : Lvalue) (bounded lends makes : Bool) → result ≡ plain.may_resize (terms.a_place x (declared_view of) bounded lends makes) (option_map declared_view written) }
+    ensures { result ≡ is_resized (Some of) (option_map declared_view written) }
 {
     match of {
         DeclaredType::ArrayOf(element) => are_elements(element, written),
@@ -34,11 +30,21 @@ fn may_resize(of: DeclaredType, written: Option<DeclaredType>) -> bool
     }
 }
 
-/// Marks the last of so many bounds, which were pushed, at the place of an array that doesn't get such elements.
+/// The same of what may be no place, and so of no type.
+fn is_resized(of: Option<DeclaredType>, written: Option<DeclaredType>) -> bool
+    ensures { result ≡ is_resized of (option_map declared_view written) }
+{
+    match of {
+        None => false,
+        Some(of) => may_resize(of, written),
+    }
+}
+
+/// Marks the last of so many bounds, which were pushed, at the place of what doesn't get such elements.
 pub fn mark_bounds(
     draft: &mut Draft,
     bounds: u32,
-    of: DeclaredType,
+    of: Option<DeclaredType>,
     written: Option<DeclaredType>,
     place: Place,
 ) -> Result<(), NoMemory>
@@ -47,7 +53,7 @@ pub fn mark_bounds(
     if bounds == 0 {
         return Ok(());
     }
-    if may_resize(of, written) {
+    if is_resized(of, written) {
         return Ok(());
     }
     let variant = DeclaredType::Plain(ElementType::Variant);

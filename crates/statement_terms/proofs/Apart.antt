@@ -21,14 +21,16 @@ use Rattle.bound_members.specs.bound_calls.specs.bound_declarations.specs.consta
 use Rattle.bound_members.specs.bound_calls.specs.bound_declarations.specs.constant_values.specs.declared_names.specs.binder.specs.Signatures.{call_type, parameters_in, reader}
 use Rattle.bound_members.specs.bound_calls.specs.bound_declarations.specs.constant_values.specs.declared_names.specs.binder.specs.Storage.{declared_variable, has_bounds, module_storage, own_declaration, own_storage, procedure_number}
 use Rattle.bound_members.specs.bound_calls.specs.bound_declarations.specs.constant_values.specs.declared_names.specs.binder.specs.Types.{class_number, is_object, meant_type, type_meant}
-use Rattle.bound_members.specs.bound_calls.specs.bound_forms.specs.Terms.{Env, Given, HostMember, Term, Within, a_function, a_host_member, a_method, a_place, a_routine, a_value, bound_arguments, broken_value, err_clear, err_object, err_raise, error_word, expression_of, member_read, no_term, read_of, takes}
-use Rattle.bound_members.specs.bound_calls.specs.bound_forms.specs.ExpressionsBound.{HostKind, along_of, along_type, along_value, argument_of, array_base, arguments_rule, bare_call, behind_base, behind_term, call_node, call_value, call_with, callee, class_member, constant_term, declared_place, element_place, entry_term, err_member, field_named, field_of_place, field_of_value, found_member, from_zero, function_takes, function_value, function_values, given_as, givens, has_item_member, host_behind, host_kind, is_found_late, host_term, if_there, indexed, indexed_place, indexed_type, indexed_value, indexes_value, item_of, kept_member, library_term, made_place, may_index, meant_term, member_called, member_in, member_of, member_of_kind, member_of_other, member_takes, new_term, node_or, numbers_of, object_behind, object_member, object_term, operand_of, own_object, own_term, place_told, reference_of, result_of, sheet_term, sheets_value, taken_by_term, takes_arguments, term_of, term_or, unknown_member, value_term, variable_term, variant_arguments, workbook, wrong_arguments, wrong_call, wrong_index, wrong_led, wrong_some, wrong_term}
+use Rattle.bound_members.specs.bound_calls.specs.bound_forms.specs.Terms.{Env, Given, HostMember, Term, Within, a_function, a_host_member, a_method, a_place, a_routine, a_value, bound_arguments, broken_call, broken_value, err_clear, err_object, err_raise, error_word, expression_of, member_read, no_term, read_of, takes}
+use Rattle.bound_members.specs.bound_calls.specs.bound_forms.specs.Operands.{HostKind, along_of, along_type, argument_of, bare_call, called_alone, lacking_call, read_alone, with_type, fits_bounds, behind_base, call_node, call_value, element_place, function_takes, function_value, given_as, host_kind, is_found_late, if_there, indexed_type, indexed_value, numbers_of, operand_of, place_told, reference_of, term_or, workbook}
+use Rattle.bound_members.specs.bound_calls.specs.bound_forms.specs.Members.{behind_alone, class_member, err_member, field_named, field_of_place, field_of_value, found_member, has_item_member, host_behind, item_of, kept_member, made_place, member_in, member_of, member_of_kind, member_of_other, object_behind, object_member, object_term, sheets_value, unknown_member}
+use Rattle.bound_members.specs.bound_calls.specs.bound_forms.specs.ExpressionsBound.{element_of_place, host_called, value_indexed, wrong_member, wrong_value, along_value, array_base, arguments_rule, behind_term, call_with, callee, constant_term, declared_place, entry_term, from_zero, function_values, givens, host_term, indexed, indexed_place, indexes_value, library_term, may_index, meant_term, member_called, member_takes, new_term, node_or, own_object, own_term, result_of, sheet_term, taken_by_term, takes_arguments, term_of, value_term, variable_term, variant_arguments, wrong_arguments, wrong_call, wrong_index, wrong_led, wrong_some, wrong_term}
 use Rattle.bound_members.specs.bound_calls.specs.bound_forms.specs.ClassDefaults.{Known, breaks, class_led, declared_in}
 use Rattle.bound_members.specs.bound_calls.specs.bound_forms.specs.StatementsBound.{is_of_object}
 
 -- what is no place of another object, but for one that isn't lent in a project with a class
 abbrev is_free : (has : Bool) → Term → Bool
-is_free has (a_place x of bounded lends makes) = (has && not lends) || not (is_of_object x)
+is_free has (a_place x of bounds lends makes) = (has && not lends) || not (is_of_object x)
 is_free has t = true
 
 or_true : (b : Bool) → (b || true) ≡ true
@@ -74,17 +76,17 @@ free_node has t f h = refl
 
 -- ---- variables
 
-free_place : (has : Bool) (x : Lvalue) (of : Declared) (bounded lends makes : Bool) → is_of_object x ≡ false → is_free has (a_place x of bounded lends makes) ≡ true
-free_place has x of bounded lends makes h = ap (λ (b : Bool). (has && not lends) || not b) h ∙ or_true (has && not lends)
+free_place : (has : Bool) (x : Lvalue) (of : Declared) (bounds : ℕ) (lends makes : Bool) → is_of_object x ≡ false → is_free has (a_place x of bounds lends makes) ≡ true
+free_place has x of bounds lends makes h = ap (λ (b : Bool). (has && not lends) || not b) h ∙ or_true (has && not lends)
 
-free_made : (has : Bool) (o : Option ℕ) (x : Lvalue) (of : Declared) (bounded lends : Bool) → is_of_object x ≡ false → is_free has (made_place o x of bounded lends) ≡ true
-free_made has None x of bounded lends h = free_place has x of bounded lends false h
-free_made has (Some number) x of bounded lends h = free_place has (as_new number x) of bounded lends true h
+free_made : (has : Bool) (o : Option ℕ) (x : Lvalue) (of : Declared) (bounds : ℕ) (lends : Bool) → is_of_object x ≡ false → is_free has (made_place o x of bounds lends) ≡ true
+free_made has None x of bounds lends h = free_place has x of bounds lends false h
+free_made has (Some number) x of bounds lends h = free_place has (as_new number x) of bounds lends true h
 
 -- a variable of another object isn't lent
-free_field : (has : Bool) (o : Option ℕ) (x : Lvalue) (of : Declared) (bounded : Bool) → has ≡ true → is_free has (made_place o x of bounded false) ≡ true
-free_field has None x of bounded h = ap (λ (b : Bool). (b && true) || not (is_of_object x)) h
-free_field has (Some number) x of bounded h = ap (λ (b : Bool). (b && true) || not (is_of_object x)) h
+free_field : (has : Bool) (o : Option ℕ) (x : Lvalue) (of : Declared) (bounds : ℕ) → has ≡ true → is_free has (made_place o x of bounds false) ≡ true
+free_field has None x of bounds h = ap (λ (b : Bool). (b && true) || not (is_of_object x)) h
+free_field has (Some number) x of bounds h = ap (λ (b : Bool). (b && true) || not (is_of_object x)) h
 
 free_declared : (has : Bool) (storage : Storage) (found : Option Declaration) → is_free has (declared_place storage found) ≡ true
 free_declared has storage None = refl
@@ -98,7 +100,7 @@ free_own has env x number n (the_result p) = or_true (has && false)
 free_own has env x number n (a_parameter p) = or_true (has && false)
 free_own has env x number n (a_local v static) =
     let d = declared_variable env.scope v in
-    free_made has (made_class env.scope v) (variable (record { storage = own_storage env.scope env.first number (a_local v static); of = d.of; bounded = has_bounds d })) d.of (has_bounds d) true refl
+    free_made has (made_class env.scope v) (variable (record { storage = own_storage env.scope env.first number (a_local v static); of = d.of; bounded = has_bounds d })) d.of (length d.bounds) true refl
 free_own has env x number n (a_local_constant c) = free_constant has env x (Some (of_procedure number (record { name = n; own = a_local_constant c })))
 free_own has env x number n o = free_declared has (own_storage env.scope env.first number o) (own_declaration env.scope (record { name = n; own = o }))
 
@@ -107,7 +109,7 @@ free_entry has env x space number n public (a_variable v) =
     let s = home env.scope space in
     let d = declared_variable s v in
     let free : (storage : Storage) → is_free has (variable_term s storage v) ≡ true =
-    λ storage. free_made has (made_class s v) (variable (record { storage = storage; of = d.of; bounded = has_bounds d })) d.of (has_bounds d) true refl in
+    λ storage. free_made has (made_class s v) (variable (record { storage = storage; of = d.of; bounded = has_bounds d })) d.of (length d.bounds) true refl in
     free_if has space.source.is_class (variable_term s (own (field_number space number)) v) (variable_term s (module_storage env.scope space number) v) (free (own (field_number space number))) (free (module_storage env.scope space number))
 free_entry has env x space number n public (a_constant c) =
     let t = constant_term env x (Some (of_module space number (record { name = n; is_public = public; what = a_constant c }))) in
@@ -152,7 +154,7 @@ free_object : (env : Env) (base : bound.Expr) (space : Space) (number : ℕ) (n 
     → is_free (has_class env.scope.spaces) (object_term env base space number (record { name = n; is_public = public; what = w })) ≡ true
 free_object env base space number n public (a_variable v) h =
     let d = declared_variable (home env.scope space) v in
-    free_field (has_class env.scope.spaces) (made_class (home env.scope space) v) (object_field base (field_number space number) d.of (has_bounds d)) d.of (has_bounds d) h
+    free_field (has_class env.scope.spaces) (made_class (home env.scope space) v) (object_field base (field_number space number) d.of (has_bounds d)) d.of (length d.bounds) h
 free_object env base space number n public (a_procedure p) h = refl
 free_object env base space number n public w h = refl
 
@@ -172,7 +174,7 @@ free_behind env place dot node of f = free_host (has_class env.scope.spaces) env
 free_of_place : (env : Env) (place dot : Place) (x : Lvalue) (of : Declared) (lends makes : Bool) (f : Identifier) → ((has_class env.scope.spaces && not lends) || not (is_of_object x)) ≡ true
     → is_free (has_class env.scope.spaces) (field_of_place env place dot x of lends makes f) ≡ true
 free_of_place env place dot x (type.udt number) lends makes f h =
-    free_unwrap (has_class env.scope.spaces) (λ (d : ℕ × Declaration). a_place (field x d.0 d.1.of (has_bounds d.1)) d.1.of (has_bounds d.1) lends false) (field_named env number f)
+    free_unwrap (has_class env.scope.spaces) (λ (d : ℕ × Declaration). a_place (field x d.0 d.1.of (has_bounds d.1)) d.1.of (length d.1.bounds) lends false) (field_named env number f)
     (unknown_member dot (expression_of (read_of makes x) place (type.udt number))) (λ d. h) refl
 free_of_place env place dot x of lends makes f h = free_behind env place dot (read_of makes x) of f
 
@@ -200,15 +202,67 @@ free_err has dot fold = by (bytes_eq fold (codes "number")) (bytes_eq fold (code
     by false false false false true = refl
     by false false false false false = refl
 
+-- ---- what stands without arguments
+
+-- a value, or nothing
+abbrev is_value : Term → Bool
+is_value (a_value node of) = true
+is_value no_term = true
+is_value t = false
+
+value_if : (b : Bool) (t u : Term) → is_value t ≡ true → is_value u ≡ true → is_value (if b then t else u) ≡ true
+value_if true t u h k = h
+value_if false t u h k = k
+
+value_option : {A : Type 0} (f : A → Term) (o : Option A) → ((a : A) → is_value (f a) ≡ true) → is_value (if_there (option_map f o)) ≡ true
+value_option f None h = refl
+value_option f (Some a) h = h a
+
+value_or : (t u : Term) → is_value t ≡ true → is_value u ≡ true → is_value (term_or t u) ≡ true
+value_or no_term u h k = k
+value_or (a_value node of) u h k = refl
+value_or t u h k = let e : false ≡ true = h in absurd cc
+
+value_function : (env : Env) (place : Place) (g : LibraryFunction) (text_form : Bool) (base : ℕ) (takes : Bool) → is_value (function_value env place g text_form base takes bound.no_exprs) ≡ true
+value_function env place g text_form base true = refl
+value_function env place g text_form base false = refl
+
+-- what lacks the arguments that it needs
+value_lacking : (env : Env) (place : Place) (base : Option bound.Expr) (space : Space) (number : ℕ) (p : Written) (o : Option (ℕ × Written))
+    → is_value (if_there (option_and_then (λ (f : ℕ × Written). if takes (parameters_in env.scope space f.1) [] then None else Some (broken_call 25 place (call_type env.scope space f.1) (behind_base base bound.no_exprs))) o)) ≡ true
+value_lacking env place base space number p None = refl
+value_lacking env place base space number p (Some f) = by (takes (parameters_in env.scope space f.1) [])
+  where
+    by : (b : Bool) → is_value (if_there (if b then None else Some (broken_call 25 place (call_type env.scope space f.1) (behind_base base bound.no_exprs)))) ≡ true
+    by true = refl
+    by false = refl
+
+value_called : (env : Env) (place : Place) (base : Option bound.Expr) (space : Space) (number : ℕ) (p : Written) → is_value (called_alone env place base space number p) ≡ true
+value_called env place base space number p =
+    let bare : ℕ × Written → Term = λ (f : ℕ × Written). call_value env base space f.0 f.1 (bound_arguments (λ of t place. None) (parameters_in env.scope space f.1) []) in
+    value_or (bare_call env base space number p) (lacking_call env place base space number p)
+    (value_option bare (reader env.scope space number p)
+    (λ f. value_option (λ xs. a_value (call_node base (procedure_number env.scope space f.0) xs) (call_type env.scope space f.1)) (bound_arguments (λ of t place. None) (parameters_in env.scope space f.1) []) (λ xs. refl)))
+    (value_lacking env place base space number p (reader env.scope space number p))
+
+free_behind_value : (env : Env) (place dot : Place) (t : Term) (f : Identifier) → is_value t ≡ true → is_free (has_class env.scope.spaces) (behind_alone env place dot t f) ≡ true
+free_behind_value env place dot (a_value node of) f h = free_of_value env place dot node of f
+free_behind_value env place dot no_term f h = refl
+free_behind_value env place dot t f h = let e : false ≡ true = h in absurd cc
+
+free_called_alone : (env : Env) (place dot : Place) (base : Option bound.Expr) (space : Space) (number : ℕ) (p : Written) (f : Identifier)
+    → is_free (has_class env.scope.spaces) (behind_alone env place dot (called_alone env place base space number p) f) ≡ true
+free_called_alone env place dot base space number p f = free_behind_value env place dot (called_alone env place base space number p) f (value_called env place base space number p)
+
 free_member_of : (env : Env) (place dot : Place) (t : Term) (f : Identifier) → is_free (has_class env.scope.spaces) t ≡ true → is_free (has_class env.scope.spaces) (member_of env place dot t f) ≡ true
-free_member_of env place dot (a_place x of bounded lends makes) f h = free_of_place env place dot x of lends makes f h
+free_member_of env place dot (a_place x of bounds lends makes) f h = free_of_place env place dot x of lends makes f h
 free_member_of env place dot (a_value node of) f h = free_of_value env place dot node of f
-free_member_of env place dot (a_routine space number p) f h =
-    free_node (has_class env.scope.spaces) (bare_call env None space number p) (λ node of. field_of_value env place dot node of f) (λ node of. free_of_value env place dot node of f)
-free_member_of env place dot (a_method base space number p) f h =
-    free_node (has_class env.scope.spaces) (bare_call env (Some base) space number p) (λ node of. field_of_value env place dot node of f) (λ node of. free_of_value env place dot node of f)
+free_member_of env place dot (a_routine space number p) f h = free_called_alone env place dot None space number p f
+free_member_of env place dot (a_method base space number p) f h = free_called_alone env place dot (Some base) space number p f
 free_member_of env place dot (a_host_member e m) f h =
-    free_if (has_class env.scope.spaces) (m.least == 0) (host_behind env place dot (member_read e m) m.of f.name) no_term (free_host (has_class env.scope.spaces) env place dot (member_read e m) m.of f.name) refl
+    free_behind_value env place dot (read_alone place e m) f (value_if (m.least == 0) (a_value (member_read e m) m.of) (broken_call 25 place m.of (also e bound.no_exprs)) refl refl)
+free_member_of env place dot (a_function g text_form base) f h =
+    free_behind_value env place dot (function_value env place g text_form base (function_takes g []) bound.no_exprs) f (value_function env place g text_form base (function_takes g []))
 free_member_of env place dot err_object f h = free_err (has_class env.scope.spaces) dot f.name
 free_member_of env place dot t f h = refl
 
@@ -235,86 +289,107 @@ free_call_value : (has : Bool) (env : Env) (base : Option bound.Expr) (space : S
 free_call_value has env base space number p args =
     free_option has (λ xs. a_value (call_node base (procedure_number env.scope space number) xs) (call_type env.scope space p)) args (λ xs. refl)
 
-free_call : (has : Bool) (env : Env) (place : Place) (gs : List Given) (base : Option bound.Expr) (space : Space) (number : ℕ) (p : Written)
-    → is_free has (call_with (argument_of env) (operand_of env) (along_value env) env place gs base space number p) ≡ true
+free_host_called : (has : Bool) (env : Env) (e : bound.Expr) (m : HostMember) (gs : List Given) → is_free has (host_called env e m gs) ≡ true
+free_host_called has env e m gs =
+    let called : Term = if_there (option_map (λ node. a_value node m.of) (member_called env e m gs)) in
+    free_if has (takes_arguments m (length gs)) called no_term (free_option has (λ node. a_value node m.of) (member_called env e m gs) (λ node. refl)) refl
+
+free_value_indexed : (has : Bool) (env : Env) (place : Place) (t : Term) (gs : List Given) → is_free has (value_indexed env place t gs) ≡ true
+free_value_indexed has env place (a_host_member e m) gs = free_host_called has env e m gs
+free_value_indexed has env place (a_value node of) gs = free_indexed_value has env place node of gs
+free_value_indexed has env place t gs = refl
+
+free_call : (has : Bool) (env : Env) (place : Place) (gs : List Given) (base : Option bound.Expr) (space : Space) (number : ℕ) (p : Written) → is_free has (call_with env place gs base space number p) ≡ true
 free_call has env place gs base space number p =
     let bare : ℕ × Written → Term = λ (f : ℕ × Written). call_value env base space f.0 f.1 (Some bound.no_args) in
     let whole : ℕ × Written → Term = λ (f : ℕ × Written). call_value env base space f.0 f.1 (bound_arguments (argument_of env) (parameters_in env.scope space f.1) gs) in
-    let at : bound.Node → Declared → Term = λ node of. indexed_value (operand_of env) (along_value env) env place node of gs in
+    let at : bound.Node → Declared → Term = λ node of. value_indexed env place (item_of env place (a_value node of)) gs in
     free_option has (λ (f : ℕ × Written). if indexes_value f.1 gs then node_or (bare f) at else whole f) (reader env.scope space number p)
     (λ f.
-    free_if has (indexes_value f.1 gs) (node_or (bare f) at) (whole f) (free_node has (bare f) at (λ node of. free_indexed_value has env place node of gs))
+    free_if has (indexes_value f.1 gs) (node_or (bare f) at) (whole f) (free_node has (bare f) at (λ node of. free_value_indexed has env place (item_of env place (a_value node of)) gs))
     (free_call_value has env base space f.0 f.1 (bound_arguments (argument_of env) (parameters_in env.scope space f.1) gs)))
 
 free_function : (has : Bool) (env : Env) (place : Place) (f : LibraryFunction) (text_form : Bool) (base : ℕ) (takes : Bool) (es : Exprs) → is_free has (function_value env place f text_form base takes es) ≡ true
 free_function has env place f text_form base true es = refl
 free_function has env place f text_form base false es = refl
 
-free_indexed_place : (has : Bool) (env : Env) (e : bound.Expr) (x : Lvalue) (lends : Bool) (gs : List Given) → ((has && not lends) || not (is_of_object x)) ≡ true → is_free has (indexed_place env e x lends gs) ≡ true
-free_indexed_place has env e x lends gs h = by (along_type env e gs) refl
+free_element : (has : Bool) (env : Env) (e : bound.Expr) (x : Lvalue) (bounds : ℕ) (lends makes : Bool) (gs : List Given) → ((has && not lends) || not (is_of_object x)) ≡ true
+    → is_free has (element_of_place env e x bounds lends makes gs) ≡ true
+free_element has env e x bounds lends makes gs h =
+    let found : Term = with_type (indexed_type env e) (numbers_of (operand_of env) gs) (λ u es. a_place (element_place x es) u 0 lends makes) in
+    free_if has (fits_bounds bounds gs) found no_term
+    (free_two has (λ (u : Declared) (es : Exprs). a_place (element_place x es) u 0 lends makes) (indexed_type env e) (numbers_of (operand_of env) gs) (λ u es. ap (λ (b : Bool). (has && not lends) || not b) (element_of x es) ∙ h)) refl
+
+free_indexed_place : (has : Bool) (env : Env) (e : bound.Expr) (x : Lvalue) (bounds : ℕ) (lends makes : Bool) (gs : List Given) → ((has && not lends) || not (is_of_object x)) ≡ true
+    → is_free has (indexed_place env e x bounds lends makes gs) ≡ true
+free_indexed_place has env e x bounds lends makes gs h = by (along_type env e gs) refl
   where
-    by : (o : Option Declared) → along_type env e gs ≡ o → is_free has (indexed_place env e x lends gs) ≡ true
-    by None is =
-        rw is (free_two has (λ (u : Declared) (es : Exprs). a_place (element_place x es) u false lends false) (indexed_type env e) (numbers_of (operand_of env) gs)
-        (λ u es. ap (λ (b : Bool). (has && not lends) || not b) (element_of x es) ∙ h))
-    by (Some u) is = rw is (free_option has (λ (es : Exprs). a_place (element_along x es) u false lends false) (along_of (along_value env) gs) (λ es. h))
+    by : (o : Option Declared) → along_type env e gs ≡ o → is_free has (indexed_place env e x bounds lends makes gs) ≡ true
+    by None is = rw is (free_element has env e x bounds lends makes gs h)
+    by (Some u) is = rw is (free_option has (λ (es : Exprs). a_place (element_along x es) u 0 lends makes) (along_of (along_value env) gs) (λ es. h))
 
 free_taken : (has : Bool) (env : Env) (place : Place) (t : Term) (gs : List Given) → is_free has t ≡ true → is_free has (taken_by_term env place t gs) ≡ true
-free_taken has env place (a_place x of bounded lends makes) gs h = free_indexed_place has env (expression_of (read_of makes x) place of) x lends gs h
+free_taken has env place (a_place x of bounds lends makes) gs h = free_indexed_place has env (expression_of (read_of makes x) place of) x bounds lends makes gs h
 free_taken has env place (a_value node of) gs h = free_indexed_value has env place node of gs
 free_taken has env place (a_routine space number p) gs h = free_call has env place gs None space number p
 free_taken has env place (a_method base space number p) gs h = free_call has env place gs (Some base) space number p
 free_taken has env place (a_function f text_form base) gs h =
     free_option has (λ es. function_value env place f text_form base (function_takes f gs) es) (function_values env f 0 gs) (λ es. free_function has env place f text_form base (function_takes f gs) es)
-free_taken has env place (a_host_member e m) gs h =
-    let called : Term = if_there (option_map (λ node. a_value node m.of) (member_called env e m gs)) in
-    free_if has (takes_arguments m (length gs)) called no_term (free_option has (λ node. a_value node m.of) (member_called env e m gs) (λ node. refl)) refl
+free_taken has env place (a_host_member e m) gs h = free_host_called has env e m gs
 free_taken has env place t gs h = refl
 
 -- arguments that aren't taken
-free_wrong : (has : Bool) (env : Env) (place : Place) (rule : ℕ) (before : Exprs → Exprs) (gs : List Given) → is_free has (wrong_arguments env place rule before gs) ≡ true
-free_wrong has env place rule before gs = free_option has (λ es. broken_value rule place (before es)) (variant_arguments env gs) (λ es. refl)
+free_wrong : (has : Bool) (env : Env) (place : Place) (rule : ℕ) (of : Declared) (before : Exprs → Exprs) (gs : List Given) → is_free has (wrong_arguments env place rule of before gs) ≡ true
+free_wrong has env place rule of before gs = free_option has (λ es. broken_call rule place of (before es)) (variant_arguments env gs) (λ es. refl)
 
 free_wrong_led : (has : Bool) (env : Env) (place : Place) (e : bound.Expr) (found : Known) (gs : List Given) → is_free has (wrong_led env place e found gs) ≡ true
-free_wrong_led has env place e (breaks rule) gs = free_wrong has env place rule (also e) gs
+free_wrong_led has env place e (breaks rule) gs = free_wrong has env place rule type.variant (also e) gs
 free_wrong_led has env place e found gs = refl
 
-free_wrong_index : (has : Bool) (env : Env) (place : Place) (node : bound.Node) (of : Declared) (gs : List Given) → is_free has (wrong_index env place node of gs) ≡ true
-free_wrong_index has env place node (type.class number) gs = free_wrong_led has env place (expression_of node place (type.class number)) (class_led (declared_in env.scope) number gs) gs
-free_wrong_index has env place node of gs =
-    let e = expression_of node place of in free_if has (may_index of gs) no_term (wrong_arguments env place 25 (also e) gs) refl (free_wrong has env place 25 (also e) gs)
+free_wrong_index : (has : Bool) (env : Env) (place : Place) (node : bound.Node) (of : Declared) (bounds : ℕ) (gs : List Given) → is_free has (wrong_index env place node of bounds gs) ≡ true
+free_wrong_index has env place node (type.class number) bounds gs = free_wrong_led has env place (expression_of node place (type.class number)) (class_led (declared_in env.scope) number gs) gs
+free_wrong_index has env place node of bounds gs =
+    let e = expression_of node place of in free_if has (may_index of bounds gs) no_term (wrong_arguments env place 25 type.variant (also e) gs) refl (free_wrong has env place 25 type.variant (also e) gs)
+
+free_wrong_member : (has : Bool) (env : Env) (place : Place) (e : bound.Expr) (m : HostMember) (gs : List Given) → is_free has (wrong_member env place e m gs) ≡ true
+free_wrong_member has env place e m gs =
+    let wrong : Term = if_there (option_map (λ rule. wrong_arguments env place rule m.of (also e) gs) (arguments_rule m)) in
+    free_if has (member_takes m gs) no_term wrong refl (free_option has (λ rule. wrong_arguments env place rule m.of (also e) gs) (arguments_rule m) (λ rule. free_wrong has env place rule m.of (also e) gs))
+
+free_wrong_value : (has : Bool) (env : Env) (place : Place) (t : Term) (gs : List Given) → is_free has (wrong_value env place t gs) ≡ true
+free_wrong_value has env place (a_host_member e m) gs = free_wrong_member has env place e m gs
+free_wrong_value has env place (a_value node of) gs = free_wrong_index has env place node of 0 gs
+free_wrong_value has env place t gs = refl
 
 free_wrong_call : (has : Bool) (env : Env) (place : Place) (base : Option bound.Expr) (space : Space) (number : ℕ) (p : Written) (gs : List Given) → is_free has (wrong_call env place base space number p gs) ≡ true
 free_wrong_call has env place base space number p gs =
     let bare : ℕ × Written → Term = λ (f : ℕ × Written). call_value env base space f.0 f.1 (Some bound.no_args) in
-    let at : bound.Node → Declared → Term = λ node of. wrong_index env place node of gs in
-    let wrong = wrong_arguments env place 25 (behind_base base) gs in
-    let other : ℕ × Written → Term = λ (f : ℕ × Written). if takes (parameters_in env.scope space f.1) gs then no_term else wrong in
+    let at : bound.Node → Declared → Term = λ node of. wrong_value env place (item_of env place (a_value node of)) gs in
+    let wrong : ℕ × Written → Term = λ (f : ℕ × Written). wrong_arguments env place 25 (call_type env.scope space f.1) (behind_base base) gs in
+    let other : ℕ × Written → Term = λ (f : ℕ × Written). if takes (parameters_in env.scope space f.1) gs then no_term else wrong f in
     free_option has (λ (f : ℕ × Written). if indexes_value f.1 gs then node_or (bare f) at else other f) (reader env.scope space number p)
     (λ f.
-    free_if has (indexes_value f.1 gs) (node_or (bare f) at) (other f) (free_node has (bare f) at (λ node of. free_wrong_index has env place node of gs))
-    (free_if has (takes (parameters_in env.scope space f.1) gs) no_term wrong refl (free_wrong has env place 25 (behind_base base) gs)))
+    free_if has (indexes_value f.1 gs) (node_or (bare f) at) (other f) (free_node has (bare f) at (λ node of. free_wrong_value has env place (item_of env place (a_value node of)) gs))
+    (free_if has (takes (parameters_in env.scope space f.1) gs) no_term (wrong f) refl (free_wrong has env place 25 (call_type env.scope space f.1) (behind_base base) gs)))
 
 free_wrong_some : (has : Bool) (env : Env) (place : Place) (gs : List Given) → is_free has (wrong_some env place gs) ≡ true
 free_wrong_some has env place [] = refl
-free_wrong_some has env place (g ∷ gs) = free_wrong has env place 25 (λ es. es) (g ∷ gs)
+free_wrong_some has env place (g ∷ gs) = free_wrong has env place 25 type.variant (λ es. es) (g ∷ gs)
 
 free_wrong_term : (has : Bool) (env : Env) (place : Place) (t : Term) (gs : List Given) → is_free has (wrong_term env place t gs) ≡ true
-free_wrong_term has env place (a_place x of bounded lends makes) gs = free_wrong_index has env place (read_of makes x) of gs
-free_wrong_term has env place (a_value node of) gs = free_wrong_index has env place node of gs
+free_wrong_term has env place (a_place x of bounds lends makes) gs = free_wrong_index has env place (read_of makes x) of bounds gs
+free_wrong_term has env place (a_value node of) gs = free_wrong_index has env place node of 0 gs
 free_wrong_term has env place (a_routine space number p) gs = free_wrong_call has env place None space number p gs
 free_wrong_term has env place (a_method base space number p) gs = free_wrong_call has env place (Some base) space number p gs
-free_wrong_term has env place (a_host_member e m) gs =
-    let wrong : Term = if_there (option_map (λ rule. wrong_arguments env place rule (also e) gs) (arguments_rule m)) in
-    free_if has (member_takes m gs) no_term wrong refl (free_option has (λ rule. wrong_arguments env place rule (also e) gs) (arguments_rule m) (λ rule. free_wrong has env place rule (also e) gs))
+free_wrong_term has env place (a_host_member e m) gs = free_wrong_member has env place e m gs
 free_wrong_term has env place err_object gs = free_wrong_some has env place gs
 free_wrong_term has env place err_clear gs = free_wrong_some has env place gs
 free_wrong_term has env place t gs = refl
 
 free_item : (has : Bool) (env : Env) (place : Place) (t : Term) → is_free has t ≡ true → is_free has (item_of env place t) ≡ true
-free_item has env place (a_place x of bounded lends makes) h =
+free_item has env place (a_place x of bounds lends makes) h =
     let made = read_of makes x in
-    free_if has (has_item_member env (expression_of made place of)) (object_member place place made of (codes "item")) (a_place x of bounded lends makes) (free_member has place place made of (codes "item")) h
+    free_if has (has_item_member env (expression_of made place of)) (object_member place place made of (codes "item")) (a_place x of bounds lends makes) (free_member has place place made of (codes "item")) h
 free_item has env place (a_value node of) h =
     free_if has (has_item_member env (expression_of node place of)) (object_member place place node of (codes "item")) (a_value node of) (free_member has place place node of (codes "item")) refl
 free_item has env place t h = h
@@ -413,8 +488,8 @@ not_true : (b : Bool) → not b ≡ true → b ≡ false
 not_true false h = refl
 not_true true h = let e : false ≡ true = h in absurd cc
 
-pub no_object : (env : Env) (e : Expr) (x : Lvalue) (of : Declared) (bounded lends makes : Bool) → term_of env e ≡ a_place x of bounded lends makes → (has_class env.scope.spaces && not lends) ≡ false → is_of_object x ≡ false
-no_object env e x of bounded lends makes is h =
+pub no_object : (env : Env) (e : Expr) (x : Lvalue) (of : Declared) (bounds : ℕ) (lends makes : Bool) → term_of env e ≡ a_place x of bounds lends makes → (has_class env.scope.spaces && not lends) ≡ false → is_of_object x ≡ false
+no_object env e x of bounds lends makes is h =
     let has = has_class env.scope.spaces in
     let free : ((has && not lends) || not (is_of_object x)) ≡ true = sym (ap (λ (t : Term). is_free has t) is) ∙ free_term env e in
     not_true (is_of_object x) (sym (ap (λ (b : Bool). b || not (is_of_object x)) h) ∙ free)

@@ -10,6 +10,10 @@ use Rattle.vba_expression.specs.Nodes.{behind_node, behind_nodes, last_arguments
 use Rattle.vba_expression.specs.declared.node.ExpressionNode.{ExpressionNode}
 use Rattle.vba_expression.specs.declared.node.ExpressionNode.TheVariants as node
 use Rattle.bound_project.specs.declared.declared_type.DeclaredType.{DeclaredType}
+use Rattle.bound_project.specs.declared.declared_type.DeclaredType.TheVariants.{Plain}
+use Rattle.bound_project.specs.declared.declared_type.ElementType.TheVariants.{Variant}
+use Rattle.vba_values.specs.Types.{Declared}
+use Rattle.bound_project.specs.declared.statement.ActionKind.TheVariants as action
 use Rattle.bound_project.specs.declared.declarations.Parameter.{Parameter}
 use Rattle.bound_project.specs.declared.statement.ActionKind.{ActionKind}
 use Rattle.bound_project.specs.Expressions.{no_exprs}
@@ -19,28 +23,35 @@ use Rattle.bound_project.specs.Bodies.{action_of, behind_object, behind_value}
 use Rattle.bound_project.specs.View.{declared_view, parameter_view}
 use Rattle.bound_project.specs.Lists.{above, args_of}
 use Rattle.bound_project.proofs.Lists.{args_are}
-use Rattle.bound_project.specs.Pieces.{Piece, Tables, an_argument, an_expr, an_object}
+use Rattle.bound_project.specs.Pieces.{Piece, Tables, an_argument, an_expr, an_object, put}
 use Rattle.bound_project.specs.Drafts.{Drafted, ActionNamed}
 use Rattle.bound_members.specs.bound_calls.specs.bound_declarations.specs.constant_values.specs.declared_names.specs.binder.specs.Options.{or_else}
 use Rattle.bound_members.specs.bound_calls.specs.bound_declarations.specs.constant_values.specs.declared_names.specs.binder.specs.Declarations.{Written}
 use Rattle.bound_members.specs.bound_calls.specs.bound_declarations.specs.constant_values.specs.declared_names.specs.binder.specs.Scopes.{Space}
-use Rattle.bound_members.specs.bound_calls.specs.bound_forms.specs.Terms.{Env, Given, routine_term}
+use Rattle.bound_members.specs.bound_calls.specs.bound_forms.specs.Terms.{Env, Given, a_value, broken_rule, routine_term}
 use Rattle.bound_members.specs.bound_calls.specs.bound_forms.specs.Terms as plain
-use Rattle.bound_members.specs.bound_calls.specs.bound_forms.specs.ExpressionsBound.{argument_of, item_of, givens, term_of, place_told, behind_base}
-use Rattle.bound_members.specs.bound_calls.specs.bound_forms.specs.StatementsBound.{assigned, assigned_to, broken_target, index_assigned, is_given_with, is_indexed_late, is_no_target, takes_value, target_before, untaken, value_given, written_to, property_given}
+use Rattle.bound_members.specs.bound_calls.specs.bound_forms.specs.Operands.{alone, argument_of, place_told, behind_base}
+use Rattle.bound_members.specs.bound_calls.specs.bound_forms.specs.Members.{item_of}
+use Rattle.bound_members.specs.bound_calls.specs.bound_forms.specs.ExpressionsBound.{givens, term_of}
+use Rattle.bound_members.specs.bound_calls.specs.bound_forms.specs.Targets.{assigned, assigned_to, broken_target, index_assigned, is_given_with, is_indexed_late, is_no_target, sub_object, takes_value, target_before, target_of_call, untaken, value_given, value_written, written_to, property_given}
 use Rattle.bound_members.specs.bound_calls.specs.bound_declarations.specs.constant_values.specs.declared_names.specs.View.{space_view}
 use Rattle.statement_terms.specs.declared.trees.Split.{Split}
+use Rattle.bound_members.specs.bound_calls.specs.declared.term.Function.{Function}
+use Rattle.bound_members.specs.bound_calls.specs.declared.term.Ending.{Ending}
+use Rattle.bound_members.specs.bound_calls.specs.declared.term.Term.{Term}
+use Rattle.bound_members.specs.bound_calls.specs.declared.term.Term.TheVariants as term
 use Rattle.bound_members.specs.bound_calls.specs.declared.term.Routine.{Routine}
 use Rattle.bound_members.specs.bound_calls.specs.declared.term.Tree.{Tree}
-use Rattle.bound_members.specs.bound_calls.specs.Standing.{PropertyStands, RoutineStands, TreeStands, IsReceiver, ReceiverThere}
+use Rattle.bound_members.specs.bound_calls.specs.Standing.{FunctionIs, PropertyStands, RoutineStands, TermStands, TreeStands, IsReceiver, ReceiverThere}
+use Rattle.bound_members.specs.bound_calls.specs.Taking.{StandsAlone, broken_ending}
 use Rattle.bound_members.specs.bound_calls.specs.Steps.{Leaves}
 use Rattle.statement_nodes.specs.Pushed.{ActionStands}
 use Rattle.statement_terms.specs.Assigning.{ValueFor}
-use Rattle.statement_terms.specs.Members.{AssignsTree}
-use Rattle.bound_members.specs.bound_calls.specs.Calls.{PassesRest}
+use Rattle.statement_terms.specs.Members.{AssignsIn, AssignsTree, is_err_term}
+use Rattle.bound_members.specs.bound_calls.specs.Calls.{PassesRest, node_of}
 use Rattle.statement_terms.specs.Called.{ActionIs, AllPassed, AssignsTo, IsBare, LetMade, SplitAt, let_with, property_kind, is_method}
 use Rattle.statement_terms.specs.Heights.{AddsOne}
-use Rattle.bound_members.specs.bound_calls.proofs.Growing.{grown_twice}
+use Rattle.bound_members.specs.bound_calls.proofs.Growing.{grown_pieces, grown_twice}
 use Rattle.bound_members.specs.bound_calls.proofs.Arguing.{left_long}
 use Rattle.bound_members.specs.bound_calls.proofs.CallSteps.{parameters_long, routine_item}
 use Rattle.bound_members.specs.bound_calls.proofs.Passing.{arguments_bound}
@@ -117,7 +128,7 @@ base_there (receiver.Pushed of) None h = absurd h
 -- ---- assignments
 
 pub a_target : (env : Env) (place : Expr) (value : bound.Expr) → is_no_target env place ≡ false → assigned_to env place value ≡ written_to env place value
-a_target env place value h = ap (λ (b : Bool). if b then Some (broken_target 27 (place_told place) value no_exprs) else written_to env place value) h
+a_target env place value h = ap (λ (b : Bool). if b then Some (broken_target 27 (place_told place) value (sub_object (target_of_call env place))) else written_to env place value) h
 
 bare_written : (env : Env) (place : Expr) (value : bound.Expr) → IsBare place → written_to env place value ≡ assigned env (place_told place) value [] (term_of env place)
 bare_written env (index base left args right) value h = absurd h
@@ -156,17 +167,64 @@ assigns_tree has may env place x d f e kind given known bare target l a = record
       a.stands env known place value goes bare target (subst T alone l.stands);
 }
 
+-- to Err, and to what it does
+pub err_assigned : (env : Env) (t : Tables) (x : Term) (place : Place) (value : bound.Expr) (z : plain.Term) (ps below : List Piece) → is_err_term x ≡ true → TermStands env t x z ps below
+    → (takes_value env z ≡ false) × ((assigned env place value [] z ≡ Some (broken_target 27 place value no_exprs)) × (ps ≡ below))
+err_assigned env t term.Err place value z ps below h k = (ap (λ (y : plain.Term). takes_value env y) k.0, (ap (λ (y : plain.Term). assigned env place value [] y) k.0, k.1))
+err_assigned env t term.ErrRaise place value z ps below h k = (ap (λ (y : plain.Term). takes_value env y) k.0, (ap (λ (y : plain.Term). assigned env place value [] y) k.0, k.1))
+err_assigned env t term.ErrClear place value z ps below h k = (ap (λ (y : plain.Term). takes_value env y) k.0, (ap (λ (y : plain.Term). assigned env place value [] y) k.0, k.1))
+err_assigned env t x place value z ps below h k = let e : false ≡ true = h in absurd cc
+
+pub err_refused : (all : project.Declarations) (has : Bool) (may : Option Bool) (x : Term) (place : Place) (d e : Drafted) → is_err_term x ≡ true
+    → e ≡ record d { pieces = put d.tables (node_of (broken_ending 27 place (Plain Variant) 1).kind place (broken_ending 27 place (Plain Variant) 1).of) d.pieces } → AssignsIn all has may place x d e action.Evaluate false
+err_refused all has may x place d e h eq =
+    let n = node_of (broken_ending 27 place (Plain Variant) 1).kind place (broken_ending 27 place (Plain Variant) 1).of in
+    let P : Drafted → Type 0 = λ (z : Drafted). AssignsIn all has may place x d z action.Evaluate false in
+    let any : bound.Expr = broken_rule 27 place no_exprs in
+    subst P (sym eq) (record {
+      grown = grown_pieces d (put d.tables n d.pieces);
+      named = tt;
+      takes = λ env z ps below k. (err_assigned env d.tables x place any z ps below h k).0;
+      stands = λ env known alike z value goes k.
+          let s = err_assigned env d.tables x place value z d.pieces (an_expr value ∷ []) h k in
+          record { made = broken_target 27 place value no_exprs; is = s.1.0; fits = ap (λ (ps : List Piece). action_of d.tables action.Evaluate (put d.tables n ps)) s.1.1 };
+    })
+
+-- to a function of the library by its name alone
+alone_assigned : (env : Env) (place : Place) (value : bound.Expr) (z : plain.Term) (f : Function) (made : bound.Node) (of : Declared) → FunctionIs env f z → alone env place z ≡ a_value made of → assigned env place value [] z ≡ value_written env place value made of
+alone_assigned env place value z f made of h is =
+    let A : plain.Term → Type 0 = λ (y : plain.Term). alone env place y ≡ a_value made of → assigned env place value [] y ≡ value_written env place value made of in
+    subst A (sym h.is) (λ k. rw k refl) is
+
+pub function_assigned : (all : project.Declarations) (has : Bool) (may : Option Bool) (x : Term) (f : Function) (place : Place) (ending : Ending) (d m e : Drafted) (kind : ActionKind) → x ≡ term.Function f → StandsAlone (term.Function f) place d m (term.Value ending)
+    → AssignsIn all has may place (term.Value ending) m e kind false → AssignsIn all has may place x d e kind false
+function_assigned all has may x f place ending d m e kind same s a =
+    let P : Term → Type 0 = λ (y : Term). AssignsIn all has may place y d e kind false in
+    subst P (sym same) (record {
+      grown = grown_twice d m e s.grown a.grown;
+      named = a.named;
+      takes = λ env z ps below k. ap (λ (y : plain.Term). takes_value env y) k.0.is;
+      stands = λ env known alike z value goes k.
+          let v = s.stands env z (an_expr value ∷ []) k in
+          let r = a.stands env known alike (alone env place z) value goes v in
+          record {
+            made = r.made;
+            is = alone_assigned env place value z f v.made (declared_view ending.of) k.0 v.is ∙ sym (ap (λ (y : plain.Term). assigned env place value [] y) v.is) ∙ r.is;
+            fits = r.fits;
+          };
+    })
+
 -- to a property with arguments
 pub item_itself : (env : Env) (place : Place) (y : plain.Term) (base : Option bound.Expr) (space : Space) (number : ℕ) (p : Written) → y ≡ routine_term base space number p → item_of env place y ≡ y
 item_itself env place y base space number p e = routine_item env place y base space number p e
 
-pub split_given : (env : Env) (base : Expr) (left right : Token) (args : Args) → takes_value env (target_before env base) ≡ true → is_given_with env (index base left args right) ≡ true
-split_given env base left right args h = ap (λ (b : Bool). b || is_indexed_late env (place_told base) (target_before env base)) h
+pub split_given : (env : Env) (base : Expr) (left right : Token) (args : Args) → takes_value env (target_before env base (givens env args)) ≡ true → is_given_with env (index base left args right) ≡ true
+split_given env base left right args h = let t = target_before env base (givens env args) in ap (λ (b : Bool). b || is_indexed_late env (place_told base) t) h
 
-pub split_assigned : (env : Env) (base : Expr) (left right : Token) (args : Args) (value : bound.Expr) → is_no_target env (index base left args right) ≡ false → takes_value env (target_before env base) ≡ true
-    → assigned_to env (index base left args right) value ≡ assigned env (place_told base) value (givens env args) (target_before env base)
+pub split_assigned : (env : Env) (base : Expr) (left right : Token) (args : Args) (value : bound.Expr) → is_no_target env (index base left args right) ≡ false → takes_value env (target_before env base (givens env args)) ≡ true
+    → assigned_to env (index base left args right) value ≡ assigned env (place_told base) value (givens env args) (target_before env base (givens env args))
 split_assigned env base left right args value target h =
-    let t = target_before env base in
+    let t = target_before env base (givens env args) in
     a_target env (index base left args right) value target
     ∙ ap (λ (b : Bool). if b then assigned env (place_told base) value (givens env args) t else index_assigned env (place_told base) t (givens env args) value) h
 

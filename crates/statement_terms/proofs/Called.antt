@@ -28,8 +28,10 @@ use Rattle.bound_members.specs.bound_calls.specs.bound_declarations.specs.consta
 use Rattle.bound_members.specs.bound_calls.specs.bound_declarations.specs.constant_values.specs.declared_names.specs.binder.specs.Options.{or_else}
 use Rattle.bound_members.specs.bound_calls.specs.bound_forms.specs.Terms.{Env, Given, broken_rule, routine_term, err_raise, err_clear, error_word, no_term, bound_arguments, has_names}
 use Rattle.bound_members.specs.bound_calls.specs.bound_forms.specs.Terms as plain
-use Rattle.bound_members.specs.bound_calls.specs.bound_forms.specs.ExpressionsBound.{argument_of, given_as, givens, indexed}
-use Rattle.bound_members.specs.bound_calls.specs.bound_forms.specs.StatementsBound.{called_place, called_term, called_with, is_one, raise_parameters, raised, untaken}
+use Rattle.bound_members.specs.bound_calls.specs.bound_forms.specs.Operands.{argument_of, given_as}
+use Rattle.bound_members.specs.bound_calls.specs.bound_forms.specs.ExpressionsBound.{givens, indexed}
+use Rattle.bound_members.specs.bound_calls.specs.bound_forms.specs.Targets.{untaken}
+use Rattle.bound_members.specs.bound_calls.specs.bound_forms.specs.StatementsBound.{called_place, called_term, called_with, is_one, raise_parameters, raised}
 use Rattle.statement_terms.specs.declared.trees.Split.{Split}
 use Rattle.bound_members.specs.bound_calls.specs.declared.term.Ending.{Ending}
 use Rattle.bound_members.specs.bound_calls.specs.declared.term.Term.{Term}
@@ -41,6 +43,8 @@ use Rattle.bound_members.specs.bound_calls.specs.Standing.{TermStands, TreeStand
 use Rattle.bound_members.specs.bound_calls.specs.Steps.{Leaves}
 use Rattle.bound_members.specs.bound_calls.specs.References.{TakesGiven}
 use Rattle.bound_members.specs.bound_calls.specs.Taking.{broken_ending}
+use Rattle.bound_project.specs.declared.declared_type.DeclaredType.TheVariants.{Plain}
+use Rattle.bound_project.specs.declared.declared_type.ElementType.TheVariants.{Variant}
 use Rattle.statement_terms.specs.Assigning.{GivenPushed}
 use Rattle.statement_nodes.specs.Pushed.{ActionStands}
 use Rattle.bound_members.specs.bound_calls.specs.Calls.{PassesRest, node_of}
@@ -149,10 +153,10 @@ acts_clear env x place d is =
     })
 
 -- Err.Raise without arguments needs one
-pub acts_lacking : (env : Env) (x : Term) (place : Place) (d e : Drafted) → x ≡ term.ErrRaise → e ≡ record d { pieces = put d.tables (node_of (broken_ending 25 place 0).kind place (broken_ending 25 place 0).of) d.pieces }
+pub acts_lacking : (env : Env) (x : Term) (place : Place) (d e : Drafted) → x ≡ term.ErrRaise → e ≡ record d { pieces = put d.tables (node_of (broken_ending 25 place (Plain Variant) 0).kind place (broken_ending 25 place (Plain Variant) 0).of) d.pieces }
     → Acts env x place [] d e action.Evaluate
 acts_lacking env x place d e is eq =
-    let n = node_of (broken_ending 25 place 0).kind place (broken_ending 25 place 0).of in
+    let n = node_of (broken_ending 25 place (Plain Variant) 0).kind place (broken_ending 25 place (Plain Variant) 0).of in
     let P : Term → Type 0 = λ z. Acts env z place [] d e action.Evaluate in
     let Q : Drafted → Type 0 = λ z. Acts env term.ErrRaise place [] d z action.Evaluate in
     subst P (sym is) (subst Q (sym eq) (record {
@@ -189,7 +193,7 @@ given_none env place z t made is none h = none_there made (sym none ∙ sym (ap 
 
 called_given : (env : Env) (t : Tables) (x : Term) (z : plain.Term) (ps below : List Piece) (place : Place) (made : bound.Expr) → TermStands env t x z ps below → given_as env z place ≡ Some made
     → called_term env place z [] ≡ Some (evaluate made)
-called_given env t (term.Place kind of bounded lends makes) z ps below place made h k =
+called_given env t (term.Place kind of bounds lends makes) z ps below place made h k =
     let A : plain.Term → Type 0 = λ y. called_term env place y [] ≡ option_map evaluate (given_as env y place) in subst A (sym h.is) refl ∙ ap (λ o. option_map evaluate o) k
 called_given env t (term.Value e) z ps below place made h k =
     let A : plain.Term → Type 0 = λ y. called_term env place y [] ≡ option_map evaluate (given_as env y place) in subst A (sym h.is) refl ∙ ap (λ o. option_map evaluate o) k

@@ -6,14 +6,15 @@ use Rattle.bound_members.specs.bound_calls.specs.bound_declarations.specs.consta
 use Rattle.bound_members.specs.bound_calls.specs.bound_declarations.specs.constant_values.specs.declared_names.specs.binder.specs.Scopes.{Space}
 use Rattle.bound_members.specs.bound_calls.specs.bound_declarations.specs.constant_values.specs.declared_names.specs.binder.specs.Signatures.{parameters_in, reader}
 use Rattle.bound_members.specs.bound_calls.specs.bound_declarations.specs.constant_values.specs.declared_names.specs.binder.specs.Options.{or_else}
-use Rattle.bound_members.specs.bound_calls.specs.bound_forms.specs.Terms.{Env, bound_arguments, routine_term, takes, typed_value, value_in}
-use Rattle.bound_members.specs.bound_calls.specs.bound_forms.specs.ExpressionsBound.{bare_call, given_as, indexed, lacking_call, term_or, typed_reference, wrong_call}
+use Rattle.bound_members.specs.bound_calls.specs.bound_forms.specs.Terms.{Env, bound_arguments, read_as, routine_term, takes, typed_value}
+use Rattle.bound_members.specs.bound_calls.specs.bound_forms.specs.Operands.{bare_call, called_alone, given_as, term_or, typed_reference}
+use Rattle.bound_members.specs.bound_calls.specs.bound_forms.specs.ExpressionsBound.{indexed, wrong_call}
 use Rattle.bound_members.specs.bound_calls.proofs.Refusing.{refused}
 
 -- the same by its parts, whatever it is called of
 abbrev given_called : Env → Place → Option bound.Expr → Space → ℕ → Written → Option bound.Expr
 given_called env place base s n w =
-    or_else (or_else (value_in typed_value (bare_call env base s n w) place) (lacking_call env base s n w place)) (value_in typed_reference (bare_call env base s n w) place)
+    or_else (read_as typed_value (called_alone env place base s n w) place) (read_as typed_reference (called_alone env place base s n w) place)
 
 abbrev indexed_called : Env → Place → Option bound.Expr → Space → ℕ → Written → Option bound.Expr
 indexed_called env place base s n w = given_as env (term_or (bare_call env base s n w) (wrong_call env place base s n w [])) place

@@ -1,6 +1,6 @@
 -- The value of an assignment: as it is, or as an operand.
 use Rattle.std.proofs.Common.{◌≡◌, ℕ, Bool, true, false, List, [], Option, Some, None, if◌then◌else◌, refl, sym, ap, subst, ◌∙◌, ◌==◌}
-use Rattle.std.specs.Prelude.{◌&&◌, ◌||◌, not, option_map, option_and_then, IfSome}
+use Rattle.std.specs.Prelude.{◌==◌, ◌&&◌, ◌||◌, not, option_map, option_and_then, IfSome}
 use Rattle.vba_base.specs.declared.place.Place.{Place}
 use Rattle.vba_values.specs.Types.{Declared}
 use Rattle.vba_values.specs.Types as type
@@ -14,12 +14,13 @@ use Rattle.bound_project.specs.View.{declared_view}
 use Rattle.bound_members.specs.bound_calls.specs.bound_declarations.specs.constant_values.specs.declared_names.specs.binder.specs.Options.{or_else}
 use Rattle.bound_members.specs.bound_calls.specs.bound_declarations.specs.constant_values.specs.declared_names.specs.binder.specs.Types.{is_object}
 use Rattle.bound_members.specs.bound_calls.specs.bound_declarations.specs.constant_values.specs.declared_names.specs.binder.specs.Constants.{is_variant}
-use Rattle.bound_members.specs.bound_calls.specs.bound_forms.specs.Terms.{Env, a_place, a_value, a_routine, a_function, a_host_member, err_object, err_raise, err_clear, error_word, no_term, expression_of, given_rule, given_to, member_read, typed_value, unless_broken, a_method, read_of, value_in, broken_rule, takes}
+use Rattle.bound_members.specs.bound_calls.specs.bound_forms.specs.Terms.{Env, a_place, a_value, a_routine, a_function, a_host_member, err_object, err_raise, err_clear, error_word, no_term, expression_of, given_rule, given_to, typed_value, unless_broken, a_method, read_as, read_of, broken_rule}
 use Rattle.bound_members.specs.bound_calls.specs.bound_forms.specs.Terms as plain
 use Rattle.bound_members.specs.bound_calls.specs.bound_forms.specs.ClassDefaults.{declared_in, default_read}
 use Rattle.bound_members.specs.bound_calls.specs.bound_forms.specs.ClassDefaults as defaults
-use Rattle.bound_members.specs.bound_calls.specs.bound_forms.specs.ExpressionsBound.{bound_as_given, bound_operand, default_value, given_as, may_be_object as may_be_object_at, operand_of, plain_operand, reference_of, term_of, value_of, place_told, bare_call, class_given_way, has_object, is_instance_type, is_of_host, may_be_instance, given_way, default_rule, host_kind, lacking_call, behind_base}
-use Rattle.bound_members.specs.bound_calls.specs.bound_forms.specs.StatementsBound.{given_to_term, is_given_with, target_term, value_for, value_given}
+use Rattle.bound_members.specs.bound_calls.specs.bound_forms.specs.Operands.{default_value, given_as, may_be_object as may_be_object_at, operand_of, plain_operand, reference_of, value_of, place_told, alone, class_given_way, has_object, is_instance_type, is_of_host, may_be_instance, given_way, default_rule, host_kind}
+use Rattle.bound_members.specs.bound_calls.specs.bound_forms.specs.ExpressionsBound.{bound_as_given, bound_operand, term_of}
+use Rattle.bound_members.specs.bound_calls.specs.bound_forms.specs.Targets.{given_to_term, is_given_with, property_takes, target_term, value_for, value_given}
 use Rattle.bound_members.specs.bound_calls.specs.declared.term.Term.{Term}
 use Rattle.bound_members.specs.bound_calls.specs.declared.term.Term.TheVariants as term
 use Rattle.bound_members.specs.bound_calls.specs.declared.term.Tree.{Tree}
@@ -35,9 +36,6 @@ use Rattle.bound_members.specs.bound_calls.specs.bound_declarations.specs.consta
 use Rattle.bound_members.specs.bound_calls.specs.declared.term.Ending.{Ending}
 use Rattle.bound_members.specs.bound_calls.specs.Calls.{node_of}
 use Rattle.bound_members.specs.bound_calls.specs.References.{IsInstance, TakesGiven}
-use Rattle.bound_members.specs.bound_calls.specs.bound_declarations.specs.constant_values.specs.declared_names.specs.binder.specs.Signatures.{parameters_in, reader}
-use Rattle.bound_members.specs.bound_calls.specs.bound_declarations.specs.constant_values.specs.declared_names.specs.binder.specs.Scopes.{Space}
-use Rattle.bound_members.specs.bound_calls.specs.bound_declarations.specs.constant_values.specs.declared_names.specs.binder.specs.Declarations.{Written}
 
 value_as_given : (env : Env) (t : plain.Term) (place : Place) (made : bound.Expr) → value_of env t place ≡ Some made → given_as env t place ≡ Some made
 value_as_given env t place made h = ap (λ (o : Option bound.Expr). or_else o (reference_of env t place)) h
@@ -49,7 +47,7 @@ valued env t place made h p =
     ap (λ (o : Option bound.Expr). or_else (option_map plain_operand o) other) h ∙ ap (λ (e : bound.Expr). Some e) p
 
 value_operand : (env : Env) (t : plain.Term) (place : Place) (made : bound.Expr) → value_of env t place ≡ Some made → plain_operand made ≡ made → operand_of env t place ≡ Some made
-value_operand env (a_place x of bounded lends makes) place made h p = valued env (a_place x of bounded lends makes) place made h p
+value_operand env (a_place x of bounds lends makes) place made h p = valued env (a_place x of bounds lends makes) place made h p
 value_operand env (a_value node of) place made h p = valued env (a_value node of) place made h p
 value_operand env (a_routine space number w) place made h p = valued env (a_routine space number w) place made h p
 value_operand env (a_method base space number w) place made h p = valued env (a_method base space number w) place made h p
@@ -88,15 +86,11 @@ stays_itself made place of e plain h = by_type (is_object (declared_view of)) h
         let P : bound.Expr → Type 0 = λ (y : bound.Expr). plain_operand y ≡ y in
         subst P same (ap (λ (c : Bool). if c && may_be_object_at made then expression_of (bound.default_of x) place type.variant else x) variant)
 
-alone : (o : Option bound.Expr) (e : bound.Expr) → or_else o None ≡ Some e → o ≡ Some e
-alone None e h = h
-alone (Some x) e h = h
-
 plain_itself : (env : Env) (t : Tables) (x : Term) (z : plain.Term) (ps below : List Piece) (place : Place) (made : bound.Expr) → is_plain x ≡ true → TermStands env t x z ps below → value_of env z place ≡ Some made → plain_operand made ≡ made
-plain_itself env t (term.Place kind of bounded lends makes) z ps below place made p h v =
-    stays_itself (read_of makes h.at) place of made p (alone (typed_value (read_of makes h.at) place (declared_view of)) made (ap (λ (y : plain.Term). value_of env y place) (sym h.is) ∙ v))
+plain_itself env t (term.Place kind of bounds lends makes) z ps below place made p h v =
+    stays_itself (read_of makes h.at) place of made p (ap (λ (y : plain.Term). value_of env y place) (sym h.is) ∙ v)
 plain_itself env t (term.Value e) z ps below place made p h v =
-    stays_itself h.made place e.of made p (alone (typed_value h.made place (declared_view e.of)) made (ap (λ (y : plain.Term). value_of env y place) (sym h.is) ∙ v))
+    stays_itself h.made place e.of made p (ap (λ (y : plain.Term). value_of env y place) (sym h.is) ∙ v)
 plain_itself env t x z ps below place made p h v = let e : false ≡ true = p in absurd cc
 
 -- ---- what may be an object of a class
@@ -138,61 +132,13 @@ typed_plain node place of e h = by (is_object of) refl h
         let A : bound.Expr → Type 0 = λ (y : bound.Expr). is_object (type_in y) ≡ false in
         subst A same k
 
-in_typed : (t : plain.Term) (place : Place) (e : bound.Expr) → value_in typed_value t place ≡ Some e → is_object (type_in e) ≡ false
-in_typed (a_value node of) place e h = typed_plain node place of e h
-in_typed t place e h = let none : None ≡ Some e = h in absurd cc
-
--- what lacks arguments is marked
-lacking_plain : (env : Env) (base : Option bound.Expr) (space : Space) (number : ℕ) (p : Written) (place : Place) (e : bound.Expr) → lacking_call env base space number p place ≡ Some e → is_object (type_in e) ≡ false
-lacking_plain env base space number p place e h = by (reader env.scope space number p) h
-  where
-    lacking : ℕ × Written → Option bound.Expr
-    lacking f = if takes (parameters_in env.scope space f.1) [] then None else Some (broken_rule 25 place (behind_base base bound.no_exprs))
-
-    test : (b : Bool) → (if b then None else Some (broken_rule 25 place (behind_base base bound.no_exprs))) ≡ Some e → is_object (type_in e) ≡ false
-    test true k = let none : None ≡ Some e = k in absurd cc
-    test false k =
-        let made : bound.Expr = broken_rule 25 place (behind_base base bound.no_exprs) in
-        let same : made ≡ e = (let j : Some made ≡ Some e = k in cc) in
-        let A : bound.Expr → Type 0 = λ (y : bound.Expr). is_object (type_in y) ≡ false in
-        subst A same refl
-
-    by : (o : Option (ℕ × Written)) → option_and_then lacking o ≡ Some e → is_object (type_in e) ≡ false
-    by None k = let none : None ≡ Some e = k in absurd cc
-    by (Some f) k = test (takes (parameters_in env.scope space f.1) []) k
-
--- one of two
-either_plain : (o l : Option bound.Expr) (e : bound.Expr) → ((x : bound.Expr) → o ≡ Some x → is_object (type_in x) ≡ false) → ((x : bound.Expr) → l ≡ Some x → is_object (type_in x) ≡ false) → or_else o l ≡ Some e → is_object (type_in e) ≡ false
-either_plain None l e f g h = g e h
-either_plain (Some x) l e f g h = f e h
-
-nothing_plain : (x : bound.Expr) → None ≡ Some x → is_object (type_in x) ≡ false
-nothing_plain x h = let none : None ≡ Some x = h in absurd cc
-
-member_plain : (least : Bool) (o : bound.Expr) (m : plain.HostMember) (place : Place) (e : bound.Expr) → (if least then typed_value (member_read o m) place m.of else None) ≡ Some e → is_object (type_in e) ≡ false
-member_plain true o m place e k = typed_plain (member_read o m) place m.of e k
-member_plain false o m place e k = let none : None ≡ Some e = k in absurd cc
-
-needed_plain : (least : Bool) (o : bound.Expr) (place : Place) (e : bound.Expr) → (if least then None else Some (broken_rule 25 place (bound.also o bound.no_exprs))) ≡ Some e → is_object (type_in e) ≡ false
-needed_plain true o place e k = let none : None ≡ Some e = k in absurd cc
-needed_plain false o place e k =
-    let made : bound.Expr = broken_rule 25 place (bound.also o bound.no_exprs) in
-    let same : made ≡ e = (let j : Some made ≡ Some e = k in cc) in
-    let A : bound.Expr → Type 0 = λ (y : bound.Expr). is_object (type_in y) ≡ false in
-    subst A same refl
+read_plain : (t : plain.Term) (place : Place) (e : bound.Expr) → read_as typed_value t place ≡ Some e → is_object (type_in e) ≡ false
+read_plain (a_place x of bounds lends makes) place e h = typed_plain (read_of makes x) place of e h
+read_plain (a_value node of) place e h = typed_plain node place of e h
+read_plain t place e h = let none : None ≡ Some e = h in absurd cc
 
 value_typed : (env : Env) (t : plain.Term) (place : Place) (e : bound.Expr) → value_of env t place ≡ Some e → is_object (type_in e) ≡ false
-value_typed env (a_place x of bounded lends makes) place e h = either_plain (typed_value (read_of makes x) place of) None e (λ y k. typed_plain (read_of makes x) place of y k) nothing_plain h
-value_typed env (a_value node of) place e h = either_plain (typed_value node place of) None e (λ y k. typed_plain node place of y k) nothing_plain h
-value_typed env (a_host_member o m) place e h =
-    either_plain (if m.least == 0 then typed_value (member_read o m) place m.of else None) (if m.least == 0 then None else Some (broken_rule 25 place (bound.also o bound.no_exprs))) e
-    (λ y k. member_plain (m.least == 0) o m place y k) (λ y k. needed_plain (m.least == 0) o place y k) h
-value_typed env (a_routine space number p) place e h =
-    either_plain (value_in typed_value (bare_call env None space number p) place) (lacking_call env None space number p place) e (λ y k. in_typed (bare_call env None space number p) place y k) (λ y k. lacking_plain env None space number p place y k) h
-value_typed env (a_method base space number p) place e h =
-    either_plain (value_in typed_value (bare_call env (Some base) space number p) place) (lacking_call env (Some base) space number p place) e (λ y k. in_typed (bare_call env (Some base) space number p) place y k)
-    (λ y k. lacking_plain env (Some base) space number p place y k) h
-value_typed env t place e h = let none : None ≡ Some e = h in absurd cc
+value_typed env t place e h = read_plain (alone env place t) place e h
 
 -- what is marked is no object of a class
 host_free : (has b : Bool) → (has && (b && false)) ≡ false
@@ -337,14 +283,16 @@ unmarked : (of : Declared) (bounded : Bool) (place : Place) (v : bound.Expr) (gi
 unmarked of bounded place v given is h =
     ap (λ (u : Declared). unless_broken (given_rule of bounded u) place v) is ∙ ap (λ (o : Option ℕ). unless_broken o place v) (not_broken of (declared_view given) bounded h)
 
-stays : (t : plain.Term) (place : Place) (v : bound.Expr) (given : DeclaredType) → bound.operand_type v ≡ declared_view given → may_break (declared_view given) ≡ false → given_to_term t place v ≡ v
-stays (a_place x of bounded lends makes) place v given is h = unmarked of bounded place v given is h
-stays (a_host_member e m) place v given is h = unmarked type.variant false place v given is h
-stays t place v given is h = refl
+stays : (env : Env) (t : plain.Term) (place : Place) (v : bound.Expr) (given : DeclaredType) → bound.operand_type v ≡ declared_view given → may_break (declared_view given) ≡ false → given_to_term env t place v ≡ v
+stays env (a_place x of bounds lends makes) place v given is h = unmarked of (not (bounds == 0)) place v given is h
+stays env (a_host_member e m) place v given is h = unmarked type.variant false place v given is h
+stays env (a_routine space number p) place v given is h = unmarked (property_takes env space p) false place v given is h
+stays env (a_method base space number p) place v given is h = unmarked (property_takes env space p) false place v given is h
+stays env t place v given is h = refl
 
-by_taker : (t : plain.Term) (taker : Option Taker) (place : Place) (found : Option bound.Expr) → TakenBy t taker → option_map (given_to_term t place) found ≡ option_map (given_by taker place) found
-by_taker t taker place None h = refl
-by_taker t taker place (Some v) h = ap (λ (e : bound.Expr). Some e) (h place v)
+by_taker : (env : Env) (t : plain.Term) (taker : Option Taker) (place : Place) (found : Option bound.Expr) → TakenBy env t taker → option_map (given_to_term env t place) found ≡ option_map (given_by taker place) found
+by_taker env t taker place None h = refl
+by_taker env t taker place (Some v) h = ap (λ (e : bound.Expr). Some e) (h place v)
 
 pub value_kept : (env : Env) (may : Option Bool) (place value : Expr) (of : DeclaredType) (d e : Drafted) → may_break (declared_view of) ≡ false → ValueBound env may of (value_for env place value) d e → ValueFor env may (value_given env place value) d e
 value_kept env may place value of d e h b =
@@ -352,12 +300,12 @@ value_kept env may place value of d e h b =
     let v = u.made in
     let term = target_term env place in
     let at = place_told value in
-    let kept : given_to_term term at v ≡ v = stays term at v of u.operand h in
+    let kept : given_to_term env term at v ≡ v = stays env term at v of u.operand h in
     record {
       grown = b.grown;
       pushed = record {
         made = v;
-        is = ap (λ (o : Option bound.Expr). option_map (given_to_term term at) o) u.is ∙ ap (λ (e : bound.Expr). Some e) kept;
+        is = ap (λ (o : Option bound.Expr). option_map (given_to_term env term at) o) u.is ∙ ap (λ (e : bound.Expr). Some e) kept;
         on_top = u.on_top;
       };
       known = b.pushed.known;
@@ -379,7 +327,7 @@ marked_known env (Some true) taker place v w same h = tt
 marked_known env (Some false) taker place v w same h = let F : bound.Expr → Type 0 = λ (y : bound.Expr). may_be_instance env y ≡ false in subst F same (taker_free env taker place v h)
 
 -- one that was marked where the target doesn't take it
-pub value_marked : (env : Env) (may : Option Bool) (place value : Expr) (x : Tree) (of : DeclaredType) (taker : Option Taker) (d f e g : Drafted) → Leaves env value d f x → TakenBy (target_term env place) taker
+pub value_marked : (env : Env) (may : Option Bool) (place value : Expr) (x : Tree) (of : DeclaredType) (taker : Option Taker) (d f e g : Drafted) → Leaves env value d f x → TakenBy env (target_term env place) taker
     → ValueBound env may of (value_for env place value) d e → MarksTaken taker x.place of e g → ValueFor env (marked_may may) (value_given env place value) d g
 value_marked env may place value x of taker d f e g l t b m =
     let u = b.pushed.pushed in
@@ -389,7 +337,7 @@ value_marked env may place value x of taker d f e g l t b m =
     let pushed = m.stands (value_for env place value) d.pieces u in
     let P : Place → Type 0 = λ (p : Place). ExprPushed (option_map (given_by taker p) (value_for env place value)) g.pieces d.pieces in
     let there = subst P l.stands.place_is pushed in
-    let given : option_map (given_to_term term at) (value_for env place value) ≡ option_map (given_by taker at) (value_for env place value) = by_taker term taker at (value_for env place value) t in
+    let given : option_map (given_to_term env term at) (value_for env place value) ≡ option_map (given_by taker at) (value_for env place value) = by_taker env term taker at (value_for env place value) t in
     let both : Some (given_by taker at v) ≡ Some there.made = ap (λ (o : Option bound.Expr). option_map (given_by taker at) o) (sym u.is) ∙ there.is in
     let same : given_by taker at v ≡ there.made = cc in
     record {

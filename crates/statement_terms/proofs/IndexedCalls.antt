@@ -17,7 +17,9 @@ use Rattle.bound_project.specs.Pieces.{Piece}
 use Rattle.bound_project.specs.Statements.{evaluate}
 use Rattle.bound_members.specs.bound_calls.specs.bound_forms.specs.Terms.{Env, Given, a_place, a_value, a_routine, a_function, a_host_member, err_object, err_raise, err_clear, error_word, no_term, a_method}
 use Rattle.bound_members.specs.bound_calls.specs.bound_forms.specs.Terms as plain
-use Rattle.bound_members.specs.bound_calls.specs.bound_forms.specs.ExpressionsBound.{callee, given_as, givens, indexed, item_of, term_of, place_told}
+use Rattle.bound_members.specs.bound_calls.specs.bound_forms.specs.Operands.{given_as, place_told}
+use Rattle.bound_members.specs.bound_calls.specs.bound_forms.specs.Members.{item_of}
+use Rattle.bound_members.specs.bound_calls.specs.bound_forms.specs.ExpressionsBound.{callee, givens, indexed, term_of}
 use Rattle.bound_members.specs.bound_calls.specs.bound_forms.specs.StatementsBound.{called_term, called_with}
 use Rattle.bound_members.specs.bound_calls.specs.declared.term.Item.{Item}
 use Rattle.bound_members.specs.bound_calls.specs.declared.term.Item.TheVariants as item
@@ -73,7 +75,7 @@ framed ns g items =
     g.adds.is items ∙ ap (λ (i : nodes.Item). i ∷ items) (added_is ns g) ∙ ap (λ (xs : Args). nodes.arguments xs ∷ items) (sym (as_added ns g items))
 
 -- some argument is given
-record SomeGiven (gs : List Given) : Type 0 where
+pub record SomeGiven (gs : List Given) : Type 0 where
   pub first : Given
   pub others : List Given
   pub is : gs ≡ first ∷ others
@@ -96,10 +98,14 @@ some_given env ns g =
     let same : args_in ns g ≡ added_args g.last before = sym (as_added ns g []) ∙ ap last_arguments (last_is ns g []) in
     subst P (sym same) (some_added env g.last before g.written)
 
+-- whatever stands below them
+pub args_given : (env : Env) (ns : List ExpressionNode) (g : GivesSome ns) (items : List nodes.Item) → SomeGiven (givens env (args_on items ns))
+args_given env ns g items = let P : Args → Type 0 = λ (xs : Args). SomeGiven (givens env xs) in subst P (sym (as_added ns g items)) (some_given env ns g)
+
 -- ---- what is called
 
 by_items : (env : Env) (place : Place) (t : plain.Term) (g : Given) (gs : List Given) (made : bound.Expr) → given_as env (indexed env place (item_of env place t) (g ∷ gs)) place ≡ Some made → called_term env place t (g ∷ gs) ≡ Some (evaluate made)
-by_items env place (a_place x of bounded lends makes) g gs made h = ap (λ (o : Option bound.Expr). option_map evaluate o) h
+by_items env place (a_place x of bounds lends makes) g gs made h = ap (λ (o : Option bound.Expr). option_map evaluate o) h
 by_items env place (a_value node of) g gs made h = ap (λ (o : Option bound.Expr). option_map evaluate o) h
 by_items env place (a_routine space number p) g gs made h = ap (λ (o : Option bound.Expr). option_map evaluate o) h
 by_items env place (a_method base space number p) g gs made h = ap (λ (o : Option bound.Expr). option_map evaluate o) h

@@ -15,3 +15,4 @@ pub mod IndexedCalls
 pub mod NamedLets
 pub mod SetTargets
 pub mod Takings
+pub mod TargetsBefore

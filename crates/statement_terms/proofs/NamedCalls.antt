@@ -22,7 +22,8 @@ use Rattle.bound_project.specs.Drafts.{Drafted}
 use Rattle.bound_members.specs.bound_calls.specs.bound_forms.specs.Terms.{Env, Given, bound_arguments}
 use Rattle.bound_members.specs.bound_calls.specs.bound_forms.specs.StatementsBound.{called_term, raise_parameters}
 use Rattle.bound_members.specs.bound_calls.specs.bound_forms.specs.Terms as plain
-use Rattle.bound_members.specs.bound_calls.specs.bound_forms.specs.ExpressionsBound.{argument_of, givens, indexed}
+use Rattle.bound_members.specs.bound_calls.specs.bound_forms.specs.Operands.{argument_of}
+use Rattle.bound_members.specs.bound_calls.specs.bound_forms.specs.ExpressionsBound.{givens, indexed}
 use Rattle.bound_members.specs.bound_calls.specs.declared.term.Ending.{Ending}
 use Rattle.bound_members.specs.bound_calls.specs.declared.term.Item.TheVariants as item
 use Rattle.bound_members.specs.bound_calls.specs.declared.term.Term.TheVariants as term

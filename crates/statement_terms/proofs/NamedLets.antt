@@ -24,7 +24,7 @@ use Rattle.statement_terms.specs.NamedCalls.{ReadsNamed}
 use Rattle.statement_terms.proofs.Assigned.{let_made, property_named}
 use Rattle.statement_terms.proofs.Called.{all_passed}
 use Rattle.statement_terms.proofs.NamedCalls.{bound_on, reads_plain, some_reversed}
-use Rattle.bound_members.specs.bound_calls.specs.bound_forms.specs.StatementsBound.{property_given}
+use Rattle.bound_members.specs.bound_calls.specs.bound_forms.specs.Targets.{property_given}
 use Rattle.bound_members.specs.bound_calls.specs.Standing.{ReceiverThere}
 
 -- ---- without names

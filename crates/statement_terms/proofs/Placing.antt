@@ -18,7 +18,8 @@ use Rattle.bound_members.specs.bound_calls.specs.bound_declarations.specs.consta
 use Rattle.bound_members.specs.bound_calls.specs.bound_declarations.specs.constant_values.specs.declared_names.specs.View.{space_view, written_view}
 use Rattle.bound_members.specs.bound_calls.specs.bound_forms.specs.Terms.{Env}
 use Rattle.bound_members.specs.bound_calls.specs.bound_forms.specs.Terms as terms
-use Rattle.bound_members.specs.bound_calls.specs.bound_forms.specs.ExpressionsBound.{given_as, term_of, place_told}
+use Rattle.bound_members.specs.bound_calls.specs.bound_forms.specs.Operands.{given_as, place_told}
+use Rattle.bound_members.specs.bound_calls.specs.bound_forms.specs.ExpressionsBound.{term_of}
 use Rattle.bound_members.specs.bound_calls.specs.bound_forms.specs.StatementsBound.{is_of_object, with_action}
 use Rattle.bound_members.specs.bound_calls.specs.declared.term.Ending.{Ending}
 use Rattle.bound_members.specs.bound_calls.specs.declared.term.Term.{Term}
@@ -41,16 +42,16 @@ use Rattle.bound_members.specs.bound_calls.specs.bound_declarations.specs.consta
 
 -- a place by its last node and its type, and whether it is lent
 pub record PlaceThere (t : Tables) (e : Ending) (lent : Bool) (x : terms.Term) (ps below : List Piece) : Type 0 where
-  pub bounded : Bool
+  pub bounds : ℕ
   pub makes : Bool
-  pub stands : PlaceStands t e.kind e.of bounded lent makes x ps below
+  pub stands : PlaceStands t e.kind e.of bounds lent makes x ps below
 
 place_there : (env : Env) (t : Tables) (x : Term) (e : Ending) (z : terms.Term) (ps below : List Piece) → place_ending x ≡ Some e → TermStands env t x z ps below → PlaceThere t e (lends x) z ps below
-place_there env t (term.Place kind of bounded lent makes) e z ps below is h =
+place_there env t (term.Place kind of bounds lent makes) e z ps below is h =
     let here : Ending = record { kind = kind; of = of } in
     let same : here ≡ e = (let k : Some here ≡ Some e = is in cc) in
     let P : Ending → Type 0 = λ (y : Ending). PlaceThere t y lent z ps below in
-    subst P same (record { bounded = bounded; makes = makes; stands = h })
+    subst P same (record { bounds = bounds; makes = makes; stands = h })
 place_there env t x e z ps below is h = let k : None ≡ Some e = is in absurd cc
 
 pub with_pushed : (kind : NodeKind) (of : DeclaredType) (place : Place) (d e : Drafted) → may_be_object of ≡ false → e ≡ record d { pieces = put d.tables (node_of kind place of) d.pieces } → WithPlacePushed kind of d e
@@ -82,7 +83,7 @@ with_place_bound env tree x at d e g empty l is apart w =
       named = tt;
       made = with_place p.at;
       is = ap (λ (z : terms.Term). with_action z env (place_told tree)) p.is
-          ∙ kept_there p.at (given_as env (terms.a_place p.at of q.bounded (lends x.term) q.makes) (place_told tree)) at.of w.plain (no_object env tree p.at of q.bounded (lends x.term) q.makes p.is apart);
+          ∙ kept_there p.at (given_as env (terms.a_place p.at of q.bounds (lends x.term) q.makes) (place_told tree)) at.of w.plain (no_object env tree p.at of q.bounds (lends x.term) q.makes p.is apart);
       fits = ap (λ (ps : List Piece). action_of g.tables action.WithPlace ps) top;
     }
 
@@ -123,10 +124,10 @@ of_object false true f c h k = refl
 of_object false false f c h k = k h
 
 -- a place of an object, or of what may be one, is kept as it is, and so is a variable of another object
-with_object : (env : Env) (place : Place) (at : Lvalue) (of : DeclaredType) (bounded lent makes : Bool) → (is_object (declared_view of) || (is_variant (declared_view of) || is_of_object at)) ≡ true
-    → with_action (terms.a_place at (declared_view of) bounded lent makes) env place ≡ option_map with_value (given_as env (terms.a_place at (declared_view of) bounded lent makes) place)
-with_object env place at of bounded lent makes h =
-    let given = given_as env (terms.a_place at (declared_view of) bounded lent makes) place in ap (λ (b : Bool). if b then option_map with_value given else Some (with_place at)) h
+with_object : (env : Env) (place : Place) (at : Lvalue) (of : DeclaredType) (bounds : ℕ) (lent makes : Bool) → (is_object (declared_view of) || (is_variant (declared_view of) || is_of_object at)) ≡ true
+    → with_action (terms.a_place at (declared_view of) bounds lent makes) env place ≡ option_map with_value (given_as env (terms.a_place at (declared_view of) bounds lent makes) place)
+with_object env place at of bounds lent makes h =
+    let given = given_as env (terms.a_place at (declared_view of) bounds lent makes) place in ap (λ (b : Bool). if b then option_map with_value given else Some (with_place at)) h
 
 pub with_object_bound : (env : Env) (tree : Expr) (x : Tree) (at : Ending) (of : DeclaredType) (d e g : Drafted) → d.pieces ≡ [] → Leaves env tree d e x → place_ending x.term ≡ Some at → (may_be_object at.of || is_object_field at.kind) ≡ true → PushesGiven x e g of
     → ActionStands (Some action.WithValue) (with_action (term_of env tree) env (place_told tree)) d g
@@ -136,7 +137,7 @@ with_object_bound env tree x at of d e g empty l is object p =
     let place = place_told tree in
     let P : terms.Term → Type 0 = λ (y : terms.Term). with_action y env place ≡ option_map with_value (given_as env y place) in
     let kept = of_object (is_object (declared_view at.of)) (is_variant (declared_view at.of)) (is_object_field at.kind) (is_of_object s.at) object (λ f. field_there e.tables at.kind s.at e.pieces d.pieces f s.ends) in
-    value_kept env tree x of d e g empty l (subst P (sym s.is) (with_object env place s.at at.of q.bounded (lends x.term) q.makes kept)) p
+    value_kept env tree x of d e g empty l (subst P (sym s.is) (with_object env place s.at at.of q.bounds (lends x.term) q.makes kept)) p
 
 -- what is no place is kept as it is
 routine_kept : (env : Env) (base : Option bound.Expr) (space : Space) (number : ℕ) (w : Written) (place : Place)
@@ -145,7 +146,7 @@ routine_kept env None space number w place = refl
 routine_kept env (Some b) space number w place = refl
 
 no_place : (env : Env) (t : Tables) (x : Term) (z : terms.Term) (ps below : List Piece) (place : Place) → place_ending x ≡ None → TermStands env t x z ps below → with_action z env place ≡ option_map with_value (given_as env z place)
-no_place env t (term.Place kind of bounded lent makes) z ps below place is h = let e : Ending = record { kind = kind; of = of } in let k : Some e ≡ None = is in absurd cc
+no_place env t (term.Place kind of bounds lent makes) z ps below place is h = let e : Ending = record { kind = kind; of = of } in let k : Some e ≡ None = is in absurd cc
 no_place env t (term.Value e) z ps below place is h =
     let P : terms.Term → Type 0 = λ (y : terms.Term). with_action y env place ≡ option_map with_value (given_as env y place) in subst P (sym h.is) refl
 no_place env t (term.Routine r) z ps below place is h =

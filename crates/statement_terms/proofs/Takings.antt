@@ -11,11 +11,13 @@ use Rattle.bound_project.specs.Pieces.{Piece, Tables}
 use Rattle.bound_project.specs.View.{declared_view}
 use Rattle.bound_members.specs.bound_calls.specs.bound_declarations.specs.constant_values.specs.declared_names.specs.binder.specs.Declarations.{Written}
 use Rattle.bound_members.specs.bound_calls.specs.bound_declarations.specs.constant_values.specs.declared_names.specs.binder.specs.Scopes.{Space}
-use Rattle.bound_members.specs.bound_calls.specs.bound_declarations.specs.constant_values.specs.declared_names.specs.View.{space_view, written_view}
-use Rattle.bound_members.specs.bound_calls.specs.bound_forms.specs.Terms.{Env, routine_term}
+use Rattle.bound_members.specs.bound_calls.specs.bound_forms.specs.Terms.{Env, given_to, routine_term}
 use Rattle.bound_members.specs.bound_calls.specs.bound_forms.specs.Terms as plain
-use Rattle.bound_members.specs.bound_calls.specs.bound_forms.specs.ExpressionsBound.{givens, indexed, place_told, term_of}
-use Rattle.bound_members.specs.bound_calls.specs.bound_forms.specs.StatementsBound.{takes_value, target_before, target_term}
+use Rattle.bound_members.specs.bound_calls.specs.bound_forms.specs.Operands.{place_told}
+use Rattle.bound_members.specs.bound_calls.specs.bound_forms.specs.ExpressionsBound.{givens, indexed, term_of}
+use Rattle.bound_members.specs.bound_calls.specs.bound_forms.specs.Targets.{property_takes, takes_value, target_before, target_term}
+use Rattle.bound_members.specs.bound_calls.specs.declared.term.Property.{Property}
+use Rattle.bound_members.specs.bound_calls.specs.declared.term.Routine.{Routine}
 use Rattle.bound_members.specs.bound_calls.specs.declared.term.Term.{Term}
 use Rattle.bound_members.specs.bound_calls.specs.declared.term.Term.TheVariants as term
 use Rattle.bound_members.specs.bound_calls.specs.Calls.{MarksGiven}
@@ -27,46 +29,47 @@ use Rattle.statement_terms.specs.Takers.{MarksTaken, TakenBy, taker_of}
 
 -- ---- terms
 
-pub as_taken : (z y : plain.Term) (taker : Option Taker) → z ≡ y → TakenBy y taker → TakenBy z taker
-as_taken z y taker is h = let P : plain.Term → Type 0 = λ (t : plain.Term). TakenBy t taker in subst P (sym is) h
+pub as_taken : (env : Env) (z y : plain.Term) (taker : Option Taker) → z ≡ y → TakenBy env y taker → TakenBy env z taker
+as_taken env z y taker is h = let P : plain.Term → Type 0 = λ (t : plain.Term). TakenBy env t taker in subst P (sym is) h
 
-routine_taken : (base : Option bound.Expr) (space : Space) (number : ℕ) (w : Written) → TakenBy (routine_term base space number w) None
-routine_taken None space number w place v = refl
-routine_taken (Some b) space number w place v = refl
+-- a procedure, by what its Let takes
+pub routine_taken : (env : Env) (base : Option bound.Expr) (space : Space) (number : ℕ) (w : Written) (of : DeclaredType) → property_takes env space w ≡ declared_view of → TakenBy env (routine_term base space number w) (Some (record { of = of; is_bounded = false }))
+routine_taken env None space number w of h place v = ap (λ u. given_to u false place v) h
+routine_taken env (Some b) space number w of h place v = ap (λ u. given_to u false place v) h
 
-pub taken_there : (env : Env) (t : Tables) (x : Term) (z : plain.Term) (ps below : List Piece) → TermStands env t x z ps below → TakenBy z (taker_of x)
-taken_there env t (term.Place kind of bounded lends makes) z ps below h = as_taken z _ (taker_of (term.Place kind of bounded lends makes)) h.is (λ place v. refl)
-taken_there env t (term.Value e) z ps below h = as_taken z _ None h.is (λ place v. refl)
-taken_there env t (term.Routine r) z ps below h =
-    let s = h.routine in as_taken z (routine_term s.base s.space s.number s.written) None s.is (routine_taken s.base s.space s.number s.written)
-taken_there env t (term.Property p) z ps below h =
-    let s = h.property in as_taken z (routine_term s.base (space_view p.space.now) s.number (written_view p.written)) None s.is (routine_taken s.base (space_view p.space.now) s.number (written_view p.written))
-taken_there env t (term.Function f) z ps below h = as_taken z _ None h.0.is (λ place v. refl)
-taken_there env t (term.HostMember m) z ps below h = as_taken z _ (taker_of (term.HostMember m)) h.is (λ place v. refl)
-taken_there env t (term.SheetMember m) z ps below h = as_taken z _ (taker_of (term.SheetMember m)) h.0 (λ place v. refl)
-taken_there env t term.Err z ps below h = as_taken z _ None h.0 (λ place v. refl)
-taken_there env t term.ErrRaise z ps below h = as_taken z _ None h.0 (λ place v. refl)
-taken_there env t term.ErrClear z ps below h = as_taken z _ None h.0 (λ place v. refl)
-taken_there env t term.ErrorWord z ps below h = as_taken z _ None h.0 (λ place v. refl)
-taken_there env t term.Nothing z ps below h = as_taken z _ None h (λ place v. refl)
+-- another term
+pub taken_there : (env : Env) (t : Tables) (x : Term) (z : plain.Term) (ps below : List Piece) → ((r : Routine) → (x ≡ term.Routine r) → ⊥) → ((p : Property) → (x ≡ term.Property p) → ⊥) → TermStands env t x z ps below → TakenBy env z (taker_of x)
+taken_there env t (term.Place kind of bounds lends makes) z ps below n o h = as_taken env z _ (taker_of (term.Place kind of bounds lends makes)) h.is (λ place v. refl)
+taken_there env t (term.Value e) z ps below n o h = as_taken env z _ None h.is (λ place v. refl)
+taken_there env t (term.Routine r) z ps below n o h = absurd (n r refl)
+taken_there env t (term.Property p) z ps below n o h = absurd (o p refl)
+taken_there env t (term.Function f) z ps below n o h = as_taken env z _ None h.0.is (λ place v. refl)
+taken_there env t (term.HostMember m) z ps below n o h = as_taken env z _ (taker_of (term.HostMember m)) h.is (λ place v. refl)
+taken_there env t (term.SheetMember m) z ps below n o h = as_taken env z _ (taker_of (term.SheetMember m)) h.0 (λ place v. refl)
+taken_there env t term.Err z ps below n o h = as_taken env z _ None h.0 (λ place v. refl)
+taken_there env t term.ErrRaise z ps below n o h = as_taken env z _ None h.0 (λ place v. refl)
+taken_there env t term.ErrClear z ps below n o h = as_taken env z _ None h.0 (λ place v. refl)
+taken_there env t term.ErrorWord z ps below n o h = as_taken env z _ None h.0 (λ place v. refl)
+taken_there env t term.Nothing z ps below n o h = as_taken env z _ None h (λ place v. refl)
 
 -- an expression that doesn't end with arguments in brackets is assigned to as the term that it is
 bare_target : (env : Env) (place : Expr) → IsBare place → target_term env place ≡ term_of env place
 bare_target env (index base left args right) h = absurd h
 bare_target env e h = refl
 
-pub taken_bare : (env : Env) (place : Expr) (t : Tables) (x : Term) (ps below : List Piece) → IsBare place → TermStands env t x (term_of env place) ps below → TakenBy (target_term env place) (taker_of x)
-taken_bare env place t x ps below bare h = as_taken (target_term env place) (term_of env place) (taker_of x) (bare_target env place bare) (taken_there env t x (term_of env place) ps below h)
+pub taken_bare : (env : Env) (place : Expr) (taker : Option Taker) → IsBare place → TakenBy env (term_of env place) taker → TakenBy env (target_term env place) taker
+taken_bare env place taker bare h = as_taken env (target_term env place) (term_of env place) taker (bare_target env place bare) h
 
 -- one with arguments takes them with its value, or is what brackets make of it
-pub target_before_is : (env : Env) (base : Expr) (left right : Token) (args : Args) → takes_value env (target_before env base) ≡ true → target_term env (index base left args right) ≡ target_before env base
+pub target_before_is : (env : Env) (base : Expr) (left right : Token) (args : Args) → takes_value env (target_before env base (givens env args)) ≡ true → target_term env (index base left args right) ≡ target_before env base (givens env args)
 target_before_is env base left right args h =
-    let t = target_before env base in
+    let t = target_before env base (givens env args) in
     ap (λ (b : Bool). if b then t else indexed env (place_told base) t (givens env args)) h
 
-pub target_indexed : (env : Env) (base : Expr) (left right : Token) (args : Args) → takes_value env (target_before env base) ≡ false → target_term env (index base left args right) ≡ term_of env (index base left args right)
+pub target_indexed : (env : Env) (base : Expr) (left right : Token) (args : Args) → takes_value env (target_before env base (givens env args)) ≡ false
+    → target_term env (index base left args right) ≡ indexed env (place_told base) (target_before env base (givens env args)) (givens env args)
 target_indexed env base left right args h =
-    let t = target_before env base in
+    let t = target_before env base (givens env args) in
     ap (λ (b : Bool). if b then t else indexed env (place_told base) t (givens env args)) h
 
 -- ---- marks

@@ -31,8 +31,10 @@ use Rattle.bound_members.specs.bound_calls.specs.bound_declarations.specs.consta
 use Rattle.bound_members.specs.bound_calls.specs.bound_declarations.specs.constant_values.specs.declared_names.specs.binder.specs.Types.{is_object}
 use Rattle.bound_members.specs.bound_calls.specs.bound_forms.specs.Terms.{Env, Given, a_host_member, expression_of, given_by_name, has_names, no_names}
 use Rattle.bound_members.specs.bound_calls.specs.bound_forms.specs.Terms as plain
-use Rattle.bound_members.specs.bound_calls.specs.bound_forms.specs.ExpressionsBound.{argument_of, arguments_rule, callee, givens, is_called_late, is_instance_type, is_item_name, is_of_host, item_of, late_arguments, member_called, member_takes, mark_members, takes_arguments, term_of, place_told, may_be_instance, variant_arguments}
-use Rattle.bound_members.specs.bound_calls.specs.bound_forms.specs.StatementsBound.{arguments_written, assigned, assigned_to, broken_target, fits_written, has_written_default, index_assigned, is_given_with, is_indexed_late, is_no_target, is_param_array, is_sub, is_written_member, late_written, member_written, named_written, set_by, takes_value, target_before, unwritten_rule, written_rule, wrong_written}
+use Rattle.bound_members.specs.bound_calls.specs.bound_forms.specs.Operands.{argument_of, is_instance_type, is_item_name, is_of_host, place_told, may_be_instance}
+use Rattle.bound_members.specs.bound_calls.specs.bound_forms.specs.Members.{item_of, mark_members}
+use Rattle.bound_members.specs.bound_calls.specs.bound_forms.specs.ExpressionsBound.{arguments_rule, callee, givens, is_called_late, late_arguments, member_called, member_takes, takes_arguments, term_of, variant_arguments}
+use Rattle.bound_members.specs.bound_calls.specs.bound_forms.specs.Targets.{arguments_written, assigned, assigned_to, broken_target, fits_written, has_written_default, index_assigned, is_given_with, is_indexed_late, is_no_target, is_param_array, is_sub, is_written_member, late_written, member_written, named_written, set_by, takes_value, unwritten_rule, written_rule, wrong_written}
 use Rattle.bound_members.specs.bound_calls.specs.declared.term.HostMember.{HostMember}
 use Rattle.bound_members.specs.bound_calls.specs.declared.term.MemberCall.{MemberCall}
 use Rattle.bound_members.specs.bound_calls.specs.declared.term.Item.TheVariants as item
@@ -43,7 +45,7 @@ use Rattle.bound_members.specs.bound_calls.specs.declared.term.Tree.{Tree}
 use Rattle.bound_members.specs.bound_calls.specs.Calls.{node_of}
 use Rattle.bound_members.specs.bound_calls.specs.declared.term.Looked.{Looked}
 use Rattle.bound_members.specs.bound_calls.specs.declared.term.Looked.TheVariants as looked
-use Rattle.bound_members.specs.bound_calls.specs.Standing.{AllGiven, MemberNamed, MemberStands, NamesCame, Stands, member_is, names_looked, names_told, on_pieces}
+use Rattle.bound_members.specs.bound_calls.specs.Standing.{AllGiven, MemberNamed, MemberStands, NamesCame, Stands, TakesMember, member_is, names_looked, names_told, on_pieces}
 use Rattle.bound_members.specs.bound_calls.specs.Shapes.{shape_given, shapes_given}
 use Rattle.bound_members.specs.bound_calls.specs.Taking.{LooksUpBare, PushesSheet, broken_ending, sheet_expression}
 use Rattle.bound_members.specs.bound_calls.proofs.Growing.{grown_pieces, grown_same, grown_twice}
@@ -55,7 +57,10 @@ use Rattle.bound_members.proofs.Naming.{given_listed, given_long, none_named, so
 use Rattle.bound_members.specs.Late.{LateCame}
 use Rattle.bound_members.specs.MemberCalls.{EndsCall}
 use Rattle.bound_members.specs.bound_calls.specs.bound_declarations.specs.constant_values.specs.declared_names.specs.binder.specs.Classes.{has_class}
-use Rattle.statement_terms.specs.Called.{ActionIs, MayBe}
+use Rattle.statement_terms.specs.Called.{ActionIs, MayBe, item_before}
+use Rattle.statement_terms.proofs.TargetsBefore.{before_member}
+use Rattle.bound_project.specs.declared.declared_type.DeclaredType.TheVariants.{Plain}
+use Rattle.bound_project.specs.declared.declared_type.ElementType.TheVariants.{Variant}
 use Rattle.statement_terms.specs.Late.{IsGivenLate, LooksLate, SetsCall, SetsLate, is_written_late}
 use Rattle.statement_terms.specs.Members.{AssignsIn, AssignsTerm, AssignsTree, GivesMember, IsReadNamed, IsWritten, WritesBroken, WritesCall, is_written, taken_rule}
 use Rattle.statement_terms.proofs.Assigned.{a_target, bare_assigned, bare_given}
@@ -191,10 +196,10 @@ sets_member_late m found d e late l =
     }
 
 -- what breaks a rule
-pub writes_broken : (rule count all : ℕ) (place : Place) (d e : Drafted) → all ≡ 2 + count → e ≡ record d { pieces = put d.tables (node_of (broken_ending rule place all).kind place (broken_ending rule place all).of) d.pieces }
+pub writes_broken : (rule count all : ℕ) (place : Place) (d e : Drafted) → all ≡ 2 + count → e ≡ record d { pieces = put d.tables (node_of (broken_ending rule place (Plain Variant) all).kind place (broken_ending rule place (Plain Variant) all).of) d.pieces }
     → WritesBroken rule count place d e action.Evaluate
 writes_broken rule count all place d e long eq =
-    let N : ℕ → Node = λ (k : ℕ). node_of (broken_ending rule place k).kind place (broken_ending rule place k).of in
+    let N : ℕ → Node = λ (k : ℕ). node_of (broken_ending rule place (Plain Variant) k).kind place (broken_ending rule place (Plain Variant) k).of in
     let P : Drafted → Type 0 = λ (z : Drafted). WritesBroken rule count place d z action.Evaluate in
     subst P (sym eq) (record {
       grown = grown_pieces d (put d.tables (N all) d.pieces);
@@ -248,33 +253,16 @@ pub some_shapes : (ss : List Shape) → ss ≢ [] → shapes_given ss ≢ []
 some_shapes [] some h = some refl
 some_shapes (s ∷ ss) some h = let e : shape_given s ∷ shapes_given ss ≡ [] = h in absurd cc
 
-member_there : (m : HostMember) (d f : Drafted) → PushesSheet d f → (z : plain.Term) → z ≡ a_host_member sheet_expression (member_is d.tables m) → z ≡ a_host_member sheet_expression (member_is f.tables m)
-member_there m d f s z h = h ∙ ap (λ (t : Tables). a_host_member sheet_expression (member_is t m)) (sym s.tables_are)
+sheet_there : (m : HostMember) (d f : Drafted) → PushesSheet d f → (z : plain.Term) → z ≡ a_host_member sheet_expression (member_is d.tables m) → z ≡ a_host_member sheet_expression (member_is f.tables m)
+sheet_there m d f s z h = h ∙ ap (λ (t : Tables). a_host_member sheet_expression (member_is t m)) (sym s.tables_are)
 
 pub sheet_assigned : (has : Bool) (may : Option Bool) (m : HostMember) (place : Place) (d f e : Drafted) (kind : ActionKind) → PushesSheet d f → AssignsTerm has may place (term.HostMember m) f e kind true → AssignsTerm has may place (term.SheetMember m) d e kind true
 sheet_assigned has may m place d f e kind s a = record {
   grown = grown_twice d f e s.grown a.grown;
   named = a.named;
-  takes = λ env z ps below h. a.takes env z (an_expr sheet_expression ∷ ps) below (record { object = sheet_expression; is = member_there m d f s z h.0; on_top = ap (λ (qs : List Piece). an_expr sheet_expression ∷ qs) h.1 });
+  takes = λ env z ps below h. a.takes env z (an_expr sheet_expression ∷ ps) below (record { object = sheet_expression; is = sheet_there m d f s z h.0; on_top = ap (λ (qs : List Piece). an_expr sheet_expression ∷ qs) h.1 });
   stands = λ env known z value goes h. a.stands env known z value goes (sheet_stands m d f s env z (an_expr value ∷ []) h);
 }
-
--- Err can't be assigned to
-pub err_assigned : (has : Bool) (may : Option Bool) (place : Place) (d e : Drafted) → e ≡ record d { pieces = put d.tables (node_of (broken_ending 27 place 1).kind place (broken_ending 27 place 1).of) d.pieces } → AssignsTerm has may place term.Err d e action.Evaluate false
-err_assigned has may place d e eq =
-    let n = node_of (broken_ending 27 place 1).kind place (broken_ending 27 place 1).of in
-    let P : Drafted → Type 0 = λ (z : Drafted). AssignsTerm has may place term.Err d z action.Evaluate false in
-    subst P (sym eq) (record {
-      grown = grown_pieces d (put d.tables n d.pieces);
-      named = tt;
-      takes = λ env z ps below h. ap (λ (y : plain.Term). takes_value env y) h.0;
-      stands = λ env known z value goes h.
-          record {
-            made = broken_target 27 place value no_exprs;
-            is = ap (λ (y : plain.Term). assigned env place value [] y) h.0;
-            fits = ap (λ (ps : List Piece). action_of d.tables action.Evaluate (put d.tables n ps)) h.1;
-          };
-    })
 
 term_assigned : (has : Bool) (may : Option Bool) (x : Tree) (d e : Drafted) (kind : ActionKind) (given : Bool) → AssignsIn (declarations_view x.declared.now) has may x.place x.term d e kind given → AssignsTree has may x d e kind given
 term_assigned has may x d e kind given a = record {
@@ -361,23 +349,26 @@ call_fits t name given count object value es ps c g on_top =
     ∙ ap (λ o. member_found n o) (exprs_are es (a_member object n (given_count (exprs_of es)) ∷ an_expr value ∷ []))
     ∙ ap (λ (b : Bool). if b then Some (assign_member object n (exprs_of es) value) else None) (is_itself n (exprs_of es))
 
-pub indexed_given : (env : Env) (base : Expr) (left right : Token) (args : Args) (object : bound.Expr) (m : plain.HostMember) → target_before env base ≡ a_host_member object m → is_given_with env (index base left args right) ≡ true
-indexed_given env base left right args object m h = ap (λ (t : plain.Term). takes_value env t || is_indexed_late env (place_told base) t) h
+pub indexed_given : (env : Env) (base : Expr) (left right : Token) (args : Args) (object : bound.Expr) (m : plain.HostMember) → item_before env base ≡ a_host_member object m → is_given_with env (index base left args right) ≡ true
+indexed_given env base left right args object m h =
+    ap (λ (t : plain.Term). takes_value env t || is_indexed_late env (place_told base) t) (before_member env (place_told base) (givens env args) (callee env base (term_of env base)) object m h)
 
 -- a member is no Sub
 pub no_member_sub : (env : Env) (place : Place) (t : plain.Term) (object : bound.Expr) (m : plain.HostMember) → item_of env place t ≡ a_host_member object m → is_sub t ≡ false
 no_member_sub env place (plain.a_routine space number p) object m h = let e : plain.a_routine space number p ≡ a_host_member object m = h in absurd cc
+no_member_sub env place (plain.a_method base space number p) object m h = let e : plain.a_method base space number p ≡ a_host_member object m = h in absurd cc
 no_member_sub env place t object m h = refl
 
-member_target : (env : Env) (base : Expr) (left right : Token) (args : Args) (object : bound.Expr) (m : plain.HostMember) → target_before env base ≡ a_host_member object m → is_no_target env (index base left args right) ≡ false
+member_target : (env : Env) (base : Expr) (left right : Token) (args : Args) (object : bound.Expr) (m : plain.HostMember) → item_before env base ≡ a_host_member object m → is_no_target env (index base left args right) ≡ false
 member_target env base left right args object m h = ap (λ (b : Bool). b || is_param_array env (index base left args right)) (no_member_sub env (place_told base) (callee env base (term_of env base)) object m h)
 
-pub indexed_assigned : (env : Env) (base : Expr) (left right : Token) (args : Args) (object : bound.Expr) (m : plain.HostMember) (value : bound.Expr) → target_before env base ≡ a_host_member object m
+pub indexed_assigned : (env : Env) (base : Expr) (left right : Token) (args : Args) (object : bound.Expr) (m : plain.HostMember) (value : bound.Expr) → item_before env base ≡ a_host_member object m
     → assigned_to env (index base left args right) value ≡ member_written env (place_told base) object m (givens env args) value
 indexed_assigned env base left right args object m value h =
     let p = place_told base in
     a_target env (index base left args right) value (member_target env base left right args object m h)
-    ∙ ap (λ (t : plain.Term). if takes_value env t then assigned env p value (givens env args) t else index_assigned env p t (givens env args) value) h
+    ∙ ap (λ (t : plain.Term). if takes_value env t then assigned env p value (givens env args) t else index_assigned env p t (givens env args) value)
+    (before_member env p (givens env args) (callee env base (term_of env base)) object m h)
 
 -- in a project without a class nothing is an object of one
 no_instance_there : (env : Env) (value : bound.Expr) → has_class env.scope.spaces ≡ false → may_be_instance env value ≡ false
@@ -514,20 +505,24 @@ writes_named may x kind d e known w r ended eq =
     })
 
 -- a member with its arguments, at the end of nodes
-pub member_given : (env : Env) (may : Option Bool) (x : MemberCall) (kind : ActionKind) (left right : Token) (d e : Drafted) (is : List nodes.Item) (below : List Piece) → WritesCall may x d e kind → Stands env d.tables (item.Member x ∷ []) is d.pieces (on_pieces below)
-    → GivesMember env may (last_tree (behind_node (node.Index left right) is)) kind e.tables e.pieces below
-member_given env may x kind left right d e [] below w h = absurd h
-member_given env may x kind left right d e (nodes.tree u ∷ is) below w h = absurd h
-member_given env may x kind left right d e (nodes.arguments args ∷ []) below w h = absurd h
-member_given env may x kind left right d e (nodes.arguments args ∷ nodes.arguments more ∷ is) below w h = absurd h
-member_given env may x kind left right d e (nodes.arguments args ∷ nodes.tree base ∷ is) below w h =
+pub member_there : (env : Env) (t : Tables) (x : MemberCall) (base : Expr) (args : Args) (ps below : List Piece) → x.of_property ≡ false → (s : MemberStands env t x base args ps below) → item_before env base ≡ a_host_member s.object (member_is t x.member)
+member_there env t x base args ps below plainly s =
+    let M : Bool → Type 0 = λ (b : Bool). TakesMember b env (place_told base) (callee env base (term_of env base)) (a_host_member s.object (member_is t x.member)) in subst M plainly s.is
+
+pub member_given : (env : Env) (may : Option Bool) (x : MemberCall) (kind : ActionKind) (left right : Token) (d e : Drafted) (is : List nodes.Item) (below : List Piece) → x.of_property ≡ false → WritesCall may x d e kind
+    → Stands env d.tables (item.Member x ∷ []) is d.pieces (on_pieces below) → GivesMember env may (last_tree (behind_node (node.Index left right) is)) kind e.tables e.pieces below
+member_given env may x kind left right d e [] below plainly w h = absurd h
+member_given env may x kind left right d e (nodes.tree u ∷ is) below plainly w h = absurd h
+member_given env may x kind left right d e (nodes.arguments args ∷ []) below plainly w h = absurd h
+member_given env may x kind left right d e (nodes.arguments args ∷ nodes.arguments more ∷ is) below plainly w h = absurd h
+member_given env may x kind left right d e (nodes.arguments args ∷ nodes.tree base ∷ is) below plainly w h =
     let s : MemberStands env d.tables x base args d.pieces h.0 = h.1.0 in
     let M = member_is d.tables x.member in
     let S : List Piece → Type 0 = λ (l : List Piece). MemberStands env d.tables x base args d.pieces l in
     record {
-      given = indexed_given env base left right args s.object M s.is;
+      given = indexed_given env base left right args s.object M (member_there env d.tables x base args d.pieces h.0 plainly s);
       does = λ value goes alone.
           let there : MemberStands env d.tables x base args d.pieces (an_expr value ∷ []) = subst S (h.1.1.1 ∙ alone) s in
           let done = w.stands env base args value goes there in
-          record { made = done.made; is = indexed_assigned env base left right args there.object M value there.is ∙ done.is; fits = done.fits };
+          record { made = done.made; is = indexed_assigned env base left right args there.object M value (member_there env d.tables x base args d.pieces (an_expr value ∷ []) plainly there) ∙ done.is; fits = done.fits };
     }

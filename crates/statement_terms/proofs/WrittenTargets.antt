@@ -5,6 +5,8 @@ use Rattle.vba_base.specs.declared.place.Place.{Place}
 use Rattle.vba_values.specs.Types.{Declared}
 use Rattle.vba_values.specs.Types as type
 use Rattle.bound_project.specs.declared.declared_type.DeclaredType.{DeclaredType}
+use Rattle.bound_project.specs.declared.declared_type.DeclaredType.TheVariants.{Plain}
+use Rattle.bound_project.specs.declared.declared_type.ElementType.TheVariants.{Variant}
 use Rattle.bound_project.specs.declared.node.LateUse.TheVariants.{Reading}
 use Rattle.bound_project.specs.declared.node.NodeKind.{NodeKind}
 use Rattle.bound_project.specs.declared.node.NodeKind.TheVariants as kinds
@@ -26,8 +28,8 @@ use Rattle.bound_members.specs.bound_calls.specs.bound_forms.specs.Terms.{Env, e
 use Rattle.bound_members.specs.bound_calls.specs.bound_forms.specs.Terms as plain
 use Rattle.bound_members.specs.bound_calls.specs.bound_forms.specs.ClassDefaults.{class_written}
 use Rattle.bound_members.specs.bound_calls.specs.bound_forms.specs.ClassDefaults as defaults
-use Rattle.bound_members.specs.bound_calls.specs.bound_forms.specs.ExpressionsBound.{HostKind, has_object, host_kind, is_found_late, is_of_class, may_be_instance}
-use Rattle.bound_members.specs.bound_calls.specs.bound_forms.specs.StatementsBound.{assigned, broken_target, class_written_or_broken, default_written, has_written_default, is_indexed_late, is_unassignable, not_assignable, place_assigned, takes_value, value_written, write_rule, written_or_broken, written_through}
+use Rattle.bound_members.specs.bound_calls.specs.bound_forms.specs.Operands.{HostKind, has_object, host_kind, is_found_late, is_of_class, may_be_instance}
+use Rattle.bound_members.specs.bound_calls.specs.bound_forms.specs.Targets.{assigned, broken_target, class_written_or_broken, default_written, has_written_default, is_indexed_late, is_unassignable, not_assignable, place_assigned, takes_value, value_written, write_rule, written_or_broken, written_through}
 use Rattle.bound_members.specs.bound_calls.specs.declared.term.Ending.{Ending}
 use Rattle.bound_members.specs.declared.kinds.HostKind as declared
 use Rattle.bound_members.specs.Kinds.{EndingOfKind, kind_view}
@@ -54,8 +56,8 @@ use Rattle.bound_members.specs.bound_calls.proofs.Taking.{read_ends}
 
 -- ---- places
 
-to_place : (env : Env) (place : Place) (v : bound.Expr) (t : plain.Term) (x : Lvalue) (of : Declared) (bounded lends makes : Bool) → t ≡ plain.a_place x of bounded lends makes → is_object of ≡ false → assigned env place v [] t ≡ Some (place_assigned x v)
-to_place env place v t x of bounded lends makes e h =
+to_place : (env : Env) (place : Place) (v : bound.Expr) (t : plain.Term) (x : Lvalue) (of : Declared) (bounds : ℕ) (lends makes : Bool) → t ≡ plain.a_place x of bounds lends makes → is_object of ≡ false → assigned env place v [] t ≡ Some (place_assigned x v)
+to_place env place v t x of bounds lends makes e h =
     ap (λ (z : plain.Term). assigned env place v [] z) e
     ∙ ap (λ (b : Bool). if b then default_written env place (read_of makes x) of v else Some (place_assigned x v)) h
 
@@ -91,9 +93,9 @@ assigned_plainly (element_along x es) v h = let e : true ≡ false = h in absurd
 assigned_plainly x v h = refl
 
 pub plain_assigned : (place : Place) (at : Ending) (d e : Drafted) → is_object (declared_view at.of) ≡ false → numbers_along at.kind ≡ None → e ≡ record d { pieces = put d.tables (node_of at.kind place at.of) d.pieces }
-    → (has bounded lends makes : Bool) (may : Option Bool) → AssignsTerm has may place (term.Place at.kind at.of bounded lends makes) d e action.Assign false
-plain_assigned place at d e none other eq has bounded lends makes may =
-    let P : Drafted → Type 0 = λ (z : Drafted). AssignsTerm has may place (term.Place at.kind at.of bounded lends makes) d z action.Assign false in
+    → (has : Bool) (bounds : ℕ) (lends makes : Bool) (may : Option Bool) → AssignsTerm has may place (term.Place at.kind at.of bounds lends makes) d e action.Assign false
+plain_assigned place at d e none other eq has bounds lends makes may =
+    let P : Drafted → Type 0 = λ (z : Drafted). AssignsTerm has may place (term.Place at.kind at.of bounds lends makes) d z action.Assign false in
     let n = node_of at.kind place at.of in
     subst P (sym eq) (record {
       grown = grown_pieces d (put d.tables n d.pieces);
@@ -102,7 +104,7 @@ plain_assigned place at d e none other eq has bounded lends makes may =
       stands = λ env known z value goes h.
           record {
             made = assign h.at value;
-            is = to_place env place value z h.at (declared_view at.of) bounded lends makes h.is none
+            is = to_place env place value z h.at (declared_view at.of) bounds lends makes h.is none
                 ∙ ap (λ (a : Action). Some a) (assigned_plainly h.at value (no_along d.tables at.kind h.at d.pieces (an_expr value ∷ []) other h.ends));
             fits = ap (λ (ps : List Piece). action_of d.tables action.Assign ps) (h.ends n);
           };
@@ -136,8 +138,8 @@ along_there t kind count at ps below h ends =
     along_of at (exprs_off count ps no_exprs) below (subst K (along_kind kind count h) (ends any_node))
 
 pub along_assigned : (place : Place) (at : Ending) (count : ℕ) (d : Drafted) → is_object (declared_view at.of) ≡ false → numbers_along at.kind ≡ Some count
-    → (has bounded lends makes : Bool) (may : Option Bool) → AssignsTerm has may place (term.Place at.kind at.of bounded lends makes) d d (action.AssignElement count) false
-along_assigned place at count d none along has bounded lends makes may = record {
+    → (has : Bool) (bounds : ℕ) (lends makes : Bool) (may : Option Bool) → AssignsTerm has may place (term.Place at.kind at.of bounds lends makes) d d (action.AssignElement count) false
+along_assigned place at count d none along has bounds lends makes may = record {
   grown = grown_same d;
   named = tt;
   takes = λ env z ps below h. ap (λ (y : plain.Term). takes_value env y) h.is;
@@ -145,7 +147,7 @@ along_assigned place at count d none along has bounded lends makes may = record 
       let there = along_there d.tables at.kind count h.at d.pieces (an_expr value ∷ []) along h.ends in
       record {
         made = assign_element there.base there.numbers value;
-        is = to_place env place value z h.at (declared_view at.of) bounded lends makes h.is none ∙ ap (λ (x : Lvalue). Some (place_assigned x value)) there.at_is;
+        is = to_place env place value z h.at (declared_view at.of) bounds lends makes h.is none ∙ ap (λ (x : Lvalue). Some (place_assigned x value)) there.at_is;
         fits = ap (λ o. element_found (λ x es e. assign_element x es e) o) there.is;
       };
 }
@@ -208,14 +210,14 @@ default_named t false = tt
 -- a place of an object that has one
 pub object_assigned : (place : Place) (at : Ending) (makes through : Bool) (d f e : Drafted) → is_object (declared_view at.of) ≡ true
     → f ≡ record d { pieces = put d.tables (node_of at.kind place at.of) d.pieces } → e ≡ record f { pieces = put f.tables (node_of (read_kind makes) place at.of) f.pieces }
-    → (all : project.Declarations) (u : DeclaredType) (has bounded lends : Bool) (may : Option Bool) → WrittenIs all (record { kind = read_kind makes; of = at.of }) (known_of.Type u)
-    → IsInstance has d.tables (record { kind = read_kind makes; of = at.of }) through → AssignsIn all has may place (term.Place at.kind at.of bounded lends makes) d e (default_kind through) false
-object_assigned place at makes through d f e object first second all u has bounded lends may written instance =
+    → (all : project.Declarations) (u : DeclaredType) (has : Bool) (bounds : ℕ) (lends : Bool) (may : Option Bool) → WrittenIs all (record { kind = read_kind makes; of = at.of }) (known_of.Type u)
+    → IsInstance has d.tables (record { kind = read_kind makes; of = at.of }) through → AssignsIn all has may place (term.Place at.kind at.of bounds lends makes) d e (default_kind through) false
+object_assigned place at makes through d f e object first second all u has bounds lends may written instance =
     let n = node_of at.kind place at.of in
     let m = node_of (read_kind makes) place at.of in
     let low = put d.tables n d.pieces in
     let E : Drafted = record d { pieces = put d.tables m low } in
-    let P : Drafted → Type 0 = λ (z : Drafted). AssignsIn all has may place (term.Place at.kind at.of bounded lends makes) d z (default_kind through) false in
+    let P : Drafted → Type 0 = λ (z : Drafted). AssignsIn all has may place (term.Place at.kind at.of bounds lends makes) d z (default_kind through) false in
     let is : e ≡ E = second ∙ ap (λ (z : Drafted). record z { pieces = put z.tables m z.pieces }) first in
     subst P (sym is) (record {
       grown = grown_pieces d (put d.tables m low);
@@ -239,7 +241,7 @@ object_assigned place at makes through d f e object first second all u has bound
 
 -- the mark of a target, of its value and what it is written with
 abbrev mark_node : (rule : ℕ) → Place → Node
-mark_node rule place = node_of (broken_ending rule place 2).kind place (broken_ending rule place 2).of
+mark_node rule place = node_of (broken_ending rule place (Plain Variant) 2).kind place (broken_ending rule place (Plain Variant) 2).of
 
 evaluated : (t : Tables) (rule : ℕ) (place : Place) (v target : bound.Expr) (ps : List Piece) → ps ≡ an_expr target ∷ an_expr v ∷ [] → action_of t action.Evaluate (put t (mark_node rule place) ps) ≡ Some (broken_target rule place v (also target no_exprs))
 evaluated t rule place v target ps h = ap (λ (st : List Piece). action_of t action.Evaluate (put t (mark_node rule place) st)) h
@@ -247,16 +249,16 @@ evaluated t rule place v target ps h = ap (λ (st : List Piece). action_of t act
 -- a place of an object whose default member isn't written
 pub unwritten_assigned : (place : Place) (at : Ending) (makes : Bool) (rule : ℕ) (d f g e : Drafted) → is_object (declared_view at.of) ≡ true
     → f ≡ record d { pieces = put d.tables (node_of at.kind place at.of) d.pieces } → g ≡ record f { pieces = put f.tables (node_of (read_kind makes) place at.of) f.pieces }
-    → e ≡ record g { pieces = put g.tables (mark_node rule place) g.pieces } → (all : project.Declarations) (has bounded lends : Bool) (may : Option Bool)
-    → WrittenIs all (record { kind = read_kind makes; of = at.of }) (known_of.Breaks rule) → AssignsIn all has may place (term.Place at.kind at.of bounded lends makes) d e action.Evaluate false
-unwritten_assigned place at makes rule d f g e object first second third all has bounded lends may broken =
+    → e ≡ record g { pieces = put g.tables (mark_node rule place) g.pieces } → (all : project.Declarations) (has : Bool) (bounds : ℕ) (lends : Bool) (may : Option Bool)
+    → WrittenIs all (record { kind = read_kind makes; of = at.of }) (known_of.Breaks rule) → AssignsIn all has may place (term.Place at.kind at.of bounds lends makes) d e action.Evaluate false
+unwritten_assigned place at makes rule d f g e object first second third all has bounds lends may broken =
     let n = node_of at.kind place at.of in
     let m = node_of (read_kind makes) place at.of in
     let high = put d.tables n d.pieces in
     let low = put d.tables m high in
     let two : g ≡ record d { pieces = low } = second ∙ ap (λ (z : Drafted). record z { pieces = put z.tables m z.pieces }) first in
     let is : e ≡ record d { pieces = put d.tables (mark_node rule place) low } = third ∙ ap (λ (z : Drafted). record z { pieces = put z.tables (mark_node rule place) z.pieces }) two in
-    let P : Drafted → Type 0 = λ (z : Drafted). AssignsIn all has may place (term.Place at.kind at.of bounded lends makes) d z action.Evaluate false in
+    let P : Drafted → Type 0 = λ (z : Drafted). AssignsIn all has may place (term.Place at.kind at.of bounds lends makes) d z action.Evaluate false in
     subst P (sym is) (record {
       grown = grown_pieces d (put d.tables (mark_node rule place) low);
       named = tt;
@@ -459,6 +461,8 @@ wrong_there t n (kinds.CallInOrder p count order) st h =
 wrong_there t n (kinds.Method p count) st h = object_found_passes wrong_on_top refl (λ e args. expr_of n (method e p args)) (λ e args rest. refl) (arguments_off count st no_args)
 wrong_there t n (kinds.MethodInOrder p count order) st h =
     object_found_passes wrong_on_top refl (λ e args. expr_of n (method e p (in_order (order_in t order) args))) (λ e args rest. refl) (arguments_off count st no_args)
+wrong_there t n (kinds.FieldValue i) st h = value_passes wrong_on_top refl (λ e. expr_of n (field_value e i)) (λ e rest. refl) st
+wrong_there t n (kinds.Marked broken count) st h = found_passes wrong_on_top refl (λ es. expr_of n (marked broken es)) (λ es rest. refl) (exprs_off count st no_exprs)
 wrong_there t n k st h = let e : false ≡ true = h in absurd cc
 
 pub unassignable : (t : Tables) (k : NodeKind) (made : bound.Node) (ps below : List Piece) → ends_unassignable k ≡ true → ValueEnds t k made ps below → is_unassignable made ≡ true
@@ -495,6 +499,8 @@ constant_written env place v (err_value m) of h none = ap (λ (b : Bool). if b t
 constant_written env place v (library f text_form es compare base) of h none = refl
 constant_written env place v (call p args) of h none = ap (λ (b : Bool). if b then default_written env place (call p args) of v else Some (not_assignable place v (call p args) of)) none
 constant_written env place v (method e p args) of h none = ap (λ (b : Bool). if b then default_written env place (method e p args) of v else Some (not_assignable place v (method e p args) of)) none
+constant_written env place v (field_value e i) of h none = ap (λ (b : Bool). if b then default_written env place (field_value e i) of v else Some (not_assignable place v (field_value e i) of)) none
+constant_written env place v (marked broken es) of h none = ap (λ (b : Bool). if b then default_written env place (marked broken es) of v else Some (not_assignable place v (marked broken es) of)) none
 constant_written env place v made of h none = let e : false ≡ true = h in absurd cc
 
 pub constant_wrong : (ending : Ending) (value : Bool) → ends_unassignable ending.kind ≡ true → MatchBool value (EndsValue ending) (Unit {0}) → MatchBool value ((all : project.Declarations) (place : Place) → EndsWrong all ending 27 place) (Unit {0})
@@ -591,10 +597,10 @@ late_other has t e (Some b) h c l = λ env made place ps below known ends.
     ap (λ (d : Bool). d || (is_of_class (declared_view e.of) || is_found_late env (expression_of made place (declared_view e.of)))) h
     ∙ ap (λ (d : Bool). d || is_found_late env (expression_of made place (declared_view e.of))) c ∙ l env made place ps below known ends
 
-pub place_late : (has : Bool) (t : Tables) (kind read : NodeKind) (of : DeclaredType) (bounded lends makes : Bool) (late : Option Bool) → read ≡ read_kind makes → IfSome late (λ b. EndsLate has t (record { kind = read; of = of }) b)
-    → IfSome late (λ b. IndexedLate has t (term.Place kind of bounded lends makes) b)
-place_late has t kind read of bounded lends makes None reads l = tt
-place_late has t kind read of bounded lends makes (Some b) reads l = λ env place z ps below known h.
+pub place_late : (has : Bool) (t : Tables) (kind read : NodeKind) (of : DeclaredType) (bounds : ℕ) (lends makes : Bool) (late : Option Bool) → read ≡ read_kind makes → IfSome late (λ b. EndsLate has t (record { kind = read; of = of }) b)
+    → IfSome late (λ b. IndexedLate has t (term.Place kind of bounds lends makes) b)
+place_late has t kind read of bounds lends makes None reads l = tt
+place_late has t kind read of bounds lends makes (Some b) reads l = λ env place z ps below known h.
     let N : NodeKind → Type 0 = λ (q : NodeKind). EndsLate has t (record { kind = q; of = of }) b in
     let n = node_of kind place of in
     let qs = put t n ps in
@@ -609,8 +615,8 @@ routine_late : (env : Env) (place : Place) (base : Option bound.Expr) (space : S
 routine_late env place None space number w = refl
 routine_late env place (Some b) space number w = refl
 
-pub other_late : (has : Bool) (t : Tables) (x : Term) → ((kind : NodeKind) (of : DeclaredType) (bounded lends makes : Bool) → (x ≡ term.Place kind of bounded lends makes) → ⊥) → ((e : Ending) → (x ≡ term.Value e) → ⊥) → IndexedLate has t x false
-other_late has t (term.Place kind of bounded lends makes) n o = absurd (n kind of bounded lends makes refl)
+pub other_late : (has : Bool) (t : Tables) (x : Term) → ((kind : NodeKind) (of : DeclaredType) (bounds : ℕ) (lends makes : Bool) → (x ≡ term.Place kind of bounds lends makes) → ⊥) → ((e : Ending) → (x ≡ term.Value e) → ⊥) → IndexedLate has t x false
+other_late has t (term.Place kind of bounds lends makes) n o = absurd (n kind of bounds lends makes refl)
 other_late has t (term.Value e) n o = absurd (o e refl)
 other_late has t (term.Routine r) n o = λ env place z ps below known h.
     let q = h.routine in ap (λ (y : plain.Term). is_indexed_late env place y) q.is ∙ routine_late env place q.base q.space q.number q.written

@@ -10,7 +10,8 @@ use Rattle.bound_project.specs.Drafts.{Drafted}
 use Rattle.bound_project.specs.Pieces.{Piece, an_expr}
 use Rattle.bound_members.specs.bound_calls.specs.bound_forms.specs.Terms.{Env}
 use Rattle.bound_members.specs.bound_calls.specs.bound_forms.specs.Terms as plain
-use Rattle.bound_members.specs.bound_calls.specs.bound_forms.specs.ExpressionsBound.{given_as, operand_of, term_of, place_told}
+use Rattle.bound_members.specs.bound_calls.specs.bound_forms.specs.Operands.{given_as, operand_of, place_told}
+use Rattle.bound_members.specs.bound_calls.specs.bound_forms.specs.ExpressionsBound.{term_of}
 use Rattle.bound_members.specs.bound_calls.specs.declared.term.Term.{Term}
 use Rattle.bound_members.specs.bound_calls.specs.declared.term.Term.TheVariants as term
 use Rattle.bound_members.specs.bound_calls.specs.declared.term.Tree.{Tree}
@@ -32,7 +33,7 @@ pub record AssignedPushed (env : Env) (may : Option Bool) (of : DeclaredType) (f
 
 -- a place or a value that is no object and can be none
 abbrev pub is_plain : Term → Bool
-is_plain (term.Place kind of bounded lends makes) = not (may_be_object of)
+is_plain (term.Place kind of bounds lends makes) = not (may_be_object of)
 is_plain (term.Value e) = not (may_be_object e.of)
 is_plain x = false
 

@@ -22,8 +22,11 @@ use Rattle.bound_project.specs.Statements.{Action}
 use Rattle.bound_members.specs.bound_calls.specs.bound_declarations.specs.constant_values.specs.declared_names.specs.binder.specs.Options.{or_else}
 use Rattle.bound_members.specs.bound_calls.specs.bound_forms.specs.Terms.{Env, Given, bound_arguments, has_names}
 use Rattle.bound_members.specs.bound_calls.specs.bound_forms.specs.Terms as plain
-use Rattle.bound_members.specs.bound_calls.specs.bound_forms.specs.ExpressionsBound.{argument_of, behind_base, givens, may_be_instance}
-use Rattle.bound_members.specs.bound_calls.specs.bound_forms.specs.StatementsBound.{assigned, assigned_to, broken_target, untaken, called_term, called_with, is_given_with, property_given, set_by}
+use Rattle.bound_members.specs.bound_calls.specs.bound_forms.specs.Operands.{argument_of, behind_base, may_be_instance, place_told}
+use Rattle.bound_members.specs.bound_calls.specs.bound_forms.specs.Members.{item_of}
+use Rattle.bound_members.specs.bound_calls.specs.bound_forms.specs.ExpressionsBound.{callee, givens, term_of}
+use Rattle.bound_members.specs.bound_calls.specs.bound_forms.specs.Targets.{assigned, assigned_to, broken_target, untaken, is_given_with, property_given, set_by}
+use Rattle.bound_members.specs.bound_calls.specs.bound_forms.specs.StatementsBound.{called_term, called_with}
 use Rattle.statement_terms.specs.declared.trees.Split.{Split}
 use Rattle.bound_members.specs.bound_calls.specs.declared.term.Item.TheVariants as item
 use Rattle.bound_members.specs.bound_calls.specs.declared.term.Ordered.{Ordered}
@@ -60,6 +63,10 @@ pub record Continues (env : Env) (x : Tree) (ns : List ExpressionNode) (d e : Dr
 abbrev pub IsBare : Expr → Type 0
 IsBare (index base left args right) = ⊥
 IsBare e = Unit {0}
+
+-- what brackets stand behind where they index no property's value
+abbrev pub item_before : Env → Expr → plain.Term
+item_before env base = item_of env (place_told base) (callee env base (term_of env base))
 
 -- ---- arguments by their nodes, behind other items
 

@@ -14,12 +14,12 @@ use Rattle.bound_project.specs.declared.node.NodeKind.TheVariants as node
 
 -- the place that a term is, but for its last node
 abbrev pub place_ending : Term → Option Ending
-place_ending (term.Place kind of bounded lends makes) = Some (record { kind = kind; of = of })
+place_ending (term.Place kind of bounds lends makes) = Some (record { kind = kind; of = of })
 place_ending x = None
 
 -- whether a term is lent to a ByRef parameter
 abbrev pub lends : Term → Bool
-lends (term.Place kind of bounded is_lent makes) = is_lent
+lends (term.Place kind of bounds is_lent makes) = is_lent
 lends x = false
 
 -- whether a place is a variable of another object, by its last node

@@ -9,7 +9,7 @@ use Rattle.bound_project.specs.Drafts.{ActionNamed, Drafted, LateNamed}
 use Rattle.bound_project.specs.Expressions as bound
 use Rattle.bound_project.specs.Pieces.{Piece, a_late, an_expr, name_in, sought_in}
 use Rattle.bound_members.specs.bound_calls.specs.bound_forms.specs.ExpressionsBound.{givens}
-use Rattle.bound_members.specs.bound_calls.specs.bound_forms.specs.StatementsBound.{set_by}
+use Rattle.bound_members.specs.bound_calls.specs.bound_forms.specs.Targets.{set_by}
 use Rattle.bound_members.specs.bound_calls.specs.bound_forms.specs.Terms.{Env, a_host_member, no_names}
 use Rattle.bound_members.specs.bound_calls.specs.bound_forms.specs.Terms as plain
 use Rattle.bound_members.specs.bound_calls.specs.declared.term.HostMember.{HostMember}

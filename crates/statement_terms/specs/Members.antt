@@ -20,16 +20,25 @@ use Rattle.bound_members.specs.bound_calls.specs.bound_declarations.specs.consta
 use Rattle.bound_members.specs.bound_calls.specs.bound_forms.specs.Terms.{Env}
 use Rattle.bound_members.specs.bound_calls.specs.bound_forms.specs.Terms as plain
 use Rattle.bound_members.specs.bound_calls.specs.bound_forms.specs.ClassDefaults.{declared_in}
-use Rattle.bound_members.specs.bound_calls.specs.bound_forms.specs.ExpressionsBound.{callee, givens, is_item_name, takes_arguments, term_of, place_told}
-use Rattle.bound_members.specs.bound_calls.specs.bound_forms.specs.StatementsBound.{assigned, assigned_to, broken_target, has_written_default, is_given_with, is_no_target, is_written_member, member_written, takes_value, unwritten_rule}
+use Rattle.bound_members.specs.bound_calls.specs.bound_forms.specs.Operands.{is_item_name, place_told}
+use Rattle.bound_members.specs.bound_calls.specs.bound_forms.specs.ExpressionsBound.{callee, givens, takes_arguments, term_of}
+use Rattle.bound_members.specs.bound_calls.specs.bound_forms.specs.Targets.{assigned, assigned_to, broken_target, has_written_default, is_given_with, is_no_target, is_written_member, member_written, takes_value, unwritten_rule}
 use Rattle.bound_members.specs.bound_calls.specs.declared.term.MemberCall.{MemberCall}
 use Rattle.bound_members.specs.bound_calls.specs.declared.term.Term.{Term}
+use Rattle.bound_members.specs.bound_calls.specs.declared.term.Term.TheVariants as term
 use Rattle.bound_members.specs.bound_calls.specs.declared.term.Tree.{Tree}
 use Rattle.bound_members.specs.bound_calls.specs.declared.term.Item.TheVariants as item
 use Rattle.bound_members.specs.bound_calls.specs.Standing.{MemberStands, TermStands, TreeStands, Grown, member_is}
 use Rattle.bound_members.specs.bound_calls.specs.Steps.{Goes}
 use Rattle.statement_terms.specs.Called.{ActionIs, IsBare, MayBe}
 use Rattle.bound_members.specs.bound_calls.specs.bound_declarations.specs.constant_values.specs.declared_names.specs.binder.specs.Classes.{has_class}
+
+-- Err, and what it does
+abbrev pub is_err_term : Term → Bool
+is_err_term term.Err = true
+is_err_term term.ErrRaise = true
+is_err_term term.ErrClear = true
+is_err_term x = false
 
 -- whether a member is written, by its name, the type of what it gives and the greatest number of its arguments
 abbrev pub is_written : List ℕ → Declared → (greatest : Option ℕ) → Bool
@@ -80,6 +89,7 @@ pub record ReadsOnto (env : Env) (x : MemberCall) (ns : List ExpressionNode) (d 
   pub behind : List ExpressionNode
   pub is : ns ≡ node.NoArguments ∷ behind
   pub goes : Goes env d (item.Member x ∷ []) e (item.Member y ∷ []) (λ is. behind_nodes is behind)
+  pub no_property : y.of_property ≡ false
 
 -- a member has some arguments, and what it gives is written
 pub record IsWritten (t : Tables) (x : MemberCall) : Type 0 where

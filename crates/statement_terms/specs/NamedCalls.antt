@@ -13,7 +13,8 @@ use Rattle.bound_project.specs.Project.{Parameter}
 use Rattle.bound_project.specs.Drafts.{Drafted}
 use Rattle.bound_members.specs.bound_calls.specs.bound_forms.specs.Terms.{Env, Given}
 use Rattle.bound_members.specs.bound_calls.specs.bound_forms.specs.Terms as plain
-use Rattle.bound_members.specs.bound_calls.specs.bound_forms.specs.ExpressionsBound.{argument_of, given_as, givens, indexed}
+use Rattle.bound_members.specs.bound_calls.specs.bound_forms.specs.Operands.{argument_of, given_as}
+use Rattle.bound_members.specs.bound_calls.specs.bound_forms.specs.ExpressionsBound.{givens, indexed}
 use Rattle.bound_members.specs.bound_calls.specs.declared.term.Routine.{Routine}
 use Rattle.bound_members.specs.bound_calls.specs.declared.term.Passed.{Passed}
 use Rattle.bound_members.specs.bound_calls.specs.InOrder.{AllNamedTaken}

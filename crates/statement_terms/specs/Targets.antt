@@ -19,8 +19,8 @@ use Rattle.bound_members.specs.bound_calls.specs.bound_forms.specs.Terms.{Env, e
 use Rattle.bound_members.specs.bound_calls.specs.bound_forms.specs.Terms as plain
 use Rattle.bound_members.specs.bound_calls.specs.bound_forms.specs.ClassDefaults.{declared_in}
 use Rattle.bound_members.specs.bound_calls.specs.bound_forms.specs.ClassDefaults as defaults
-use Rattle.bound_members.specs.bound_calls.specs.bound_forms.specs.ExpressionsBound.{has_object, is_found_late, is_of_class}
-use Rattle.bound_members.specs.bound_calls.specs.bound_forms.specs.StatementsBound.{assigned, broken_target, class_written_or_broken, default_written, has_written_default, is_indexed_late, value_written}
+use Rattle.bound_members.specs.bound_calls.specs.bound_forms.specs.Operands.{has_object, is_found_late, is_of_class}
+use Rattle.bound_members.specs.bound_calls.specs.bound_forms.specs.Targets.{assigned, broken_target, class_written_or_broken, default_written, has_written_default, is_indexed_late, value_written}
 use Rattle.bound_members.specs.bound_calls.specs.class_defaults.specs.Known.{known_view}
 use Rattle.bound_members.specs.bound_calls.specs.class_defaults.specs.declared.known.Known.{Known}
 use Rattle.bound_members.specs.bound_calls.specs.declared.term.Ending.{Ending}
@@ -86,7 +86,8 @@ abbrev pub is_value_kind : NodeKind → Bool
 is_value_kind (kinds.HostObject reference) = true
 is_value_kind kind = is_typed_kind kind
 
--- the last node of what can't be assigned to: a constant, what Err tells, and what is called
+-- the last node of what can't be assigned to: a constant, what Err tells, what is called, a field of what that gives, and what
+-- breaks a rule
 abbrev pub ends_unassignable : NodeKind → Bool
 ends_unassignable (kinds.Constant i) = true
 ends_unassignable (kinds.ErrValue _) = true
@@ -95,6 +96,8 @@ ends_unassignable (kinds.Call p count) = true
 ends_unassignable (kinds.CallInOrder p count order) = true
 ends_unassignable (kinds.Method p count) = true
 ends_unassignable (kinds.MethodInOrder p count order) = true
+ends_unassignable (kinds.FieldValue i) = true
+ends_unassignable (kinds.Marked broken count) = true
 ends_unassignable kind = false
 
 -- a value that is no object, and can be none

@@ -1,18 +1,21 @@
 //! What is done with the value of an assignment.
 
-ghost use Rattle.std.specs.Prelude.{◌≡◌, true, false, IfOk};
+ghost use Rattle.std.specs.Prelude.{◌≡◌, Option, Bool, true, false, IfOk};
 ghost use Rattle.bound_project.specs.DraftView.{draft_view};
+ghost use Rattle.bound_project.specs.View.{declarations_view};
 ghost use Rattle.statement_terms.specs.Called.{is_method, ordered_kind, property_kind};
-ghost use Rattle.statement_terms.specs.Members.{AssignsTree};
+ghost use Rattle.statement_terms.specs.Members.{AssignsIn, AssignsTree, is_err_term};
 ghost use Rattle.bound_members.specs.bound_calls.specs.Standing.{TermNamed};
 
 use crate::member_targets::{assign_member, assign_sheet};
 use crate::targets::{assign_place, assign_value};
 use bound_members::bound_calls::bound_declarations::NotYet;
-use bound_members::bound_calls::{Ending, Ordered, Receiver, Term, Tree, push_broken};
+use bound_members::bound_calls::{
+    Ending, Function, Ordered, Receiver, Term, Tree, alone, push_broken,
+};
 use bound_project::{ActionKind, DeclaredType, Draft};
 use std::alloc::Global;
-use vba_base::OrMemory;
+use vba_base::{NoMemory, OrMemory};
 
 /// What is done with a value that was pushed, where it is assigned, and whether it comes as it is: where its target takes
 /// it with arguments, or is what arguments lead to in the run.
@@ -137,6 +140,32 @@ pub fn ordered_kind(property: PropertyLet, ordered: Ordered) -> ActionKind
     }
 }
 
+/// What nothing is assigned to, Err and what it does, behind the value that it is given.
+fn refuse_err<'a>(draft: &mut Draft, tree: Tree<'a>) -> Result<ActionKind, NoMemory>
+    requires { is_err_term tree.term ≡ true }
+    ensures { IfOk result (λ kind. (has : Bool) (may : Option Bool) → AssignsIn (declarations_view tree.entry.declared.now) has may tree.entry.place tree.entry.term (draft_view draft.old) (draft_view draft.new) kind false) }
+{
+    push_broken(draft, 27, tree.place, 1)?;
+    Ok(ActionKind::Evaluate)
+}
+
+/// A function of the library by its name alone, behind the value that it is given.
+fn assign_function<'a>(
+    alloc: Global,
+    draft: &mut Draft,
+    tree: Tree<'a>,
+    function: Function,
+    has_class: bool,
+) -> Result<ActionKind, OrMemory<NotYet>>
+    requires { tree.term ≡ Term.Function function }
+    ensures { IfOk result (λ kind. (may : Option Bool) → AssignsIn (declarations_view tree.entry.declared.now) has_class may tree.entry.place tree.entry.term (draft_view draft.old) (draft_view draft.new) kind false) }
+{
+    match alone(alloc, draft, Term::Function(function), tree.place)? {
+        Term::Value(ending) => assign_value(draft, ending, tree.place, has_class, tree.declared),
+        _ => Err(OrMemory::Fault(NotYet)),
+    }
+}
+
 /// An expression that doesn't end with arguments in brackets, behind the value that it is given, which may be an object of a
 /// class or not.
 pub fn assign_tree<'a>(
@@ -179,9 +208,21 @@ pub fn assign_tree<'a>(
             let kind = assign_sheet(alloc, draft, member, place, may_be)?;
             Ok(as_given(kind))
         }
+        Term::Function(function) => {
+            let kind = assign_function(alloc, draft, tree, function, has_class)?;
+            Ok(as_operand(kind))
+        }
         Term::Err => {
-            push_broken(draft, 27, place, 1)?;
-            Ok(as_operand(ActionKind::Evaluate))
+            let kind = refuse_err(draft, tree)?;
+            Ok(as_operand(kind))
+        }
+        Term::ErrRaise => {
+            let kind = refuse_err(draft, tree)?;
+            Ok(as_operand(kind))
+        }
+        Term::ErrClear => {
+            let kind = refuse_err(draft, tree)?;
+            Ok(as_operand(kind))
         }
         _ => Err(OrMemory::Fault(NotYet)),
     }

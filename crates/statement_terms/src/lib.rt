@@ -27,7 +27,7 @@ pub use member_targets::{is_late, write_broken, write_call, written_rule};
 pub use places::{place_ending, with_place};
 pub use pushed_terms::push_term;
 pub use raising::raise_parameters;
-pub use setting::{push_broken, set_marked, set_member, set_term};
+pub use setting::{push_broken, set_member, set_term, set_value};
 pub use statement_calls::{are_none, bare_term, push_given, push_rest};
 pub use takers::{Taker, mark_taken, may_break, taker_of};
 pub use targets::{assign_indexed, assign_value, is_indexed_late, late_value, may_be_object};

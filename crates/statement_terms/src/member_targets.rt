@@ -6,8 +6,9 @@ ghost use Rattle.bound_project.specs.DraftView.{draft_view};
 ghost use Rattle.bound_project.specs.Pieces.{name_in};
 ghost use Rattle.bound_project.specs.View.{declared_view};
 ghost use Rattle.bound_members.specs.bound_calls.specs.bound_declarations.specs.constant_values.specs.declared_names.specs.binder.specs.Types.{is_object};
-ghost use Rattle.bound_members.specs.bound_calls.specs.bound_forms.specs.ExpressionsBound.{is_item_name, mark_members};
-ghost use Rattle.bound_members.specs.bound_calls.specs.bound_forms.specs.StatementsBound as plain;
+ghost use Rattle.bound_members.specs.bound_calls.specs.bound_forms.specs.Operands.{is_item_name, is_value_name};
+ghost use Rattle.bound_members.specs.bound_calls.specs.bound_forms.specs.Members.{mark_members};
+ghost use Rattle.bound_members.specs.bound_calls.specs.bound_forms.specs.Targets as targets_bound;
 ghost use Rattle.bound_members.specs.bound_calls.specs.bound_forms.specs.Terms as terms;
 ghost use Rattle.bound_members.specs.bound_calls.specs.Shapes.{shapes_given};
 ghost use Rattle.statement_terms.specs.Late.{is_written_late};
@@ -48,29 +49,36 @@ pub fn is_late(greatest: Option<u32>) -> bool
     }
 }
 
+/// Is a folded name that of Value?
+pub fn is_value_name(name: &[u16]) -> bool
+    ensures { result ≡ is_value_name name.now }
+{
+    is_word(name, b"value")
+}
+
 /// Is a member written that has a name, gives what is of a type and takes so many arguments at most?
 fn is_written(name: &[u16], of: DeclaredType, greatest: Option<u32>) -> bool
     ensures { result ≡ is_written name.now (declared_view of) greatest }
 {
     let gives_default = is_object(of) && has_written_default(of);
-    let is_default = (is_late(greatest) || is_word(name, b"value")) || gives_default;
+    let is_default = (is_late(greatest) || is_value_name(name)) || gives_default;
     (is_default || is_item_name(name)) || is_mark(name)
 }
 
 /// The rule that an assignment breaks to what a member gives of a type, and can't be written; none where the run decides.
 fn unwritten_rule(of: DeclaredType) -> Option<u8>
-    ensures { result ≡ plain.unwritten_rule (declared_view of) }
+    ensures { result ≡ targets_bound.unwritten_rule (declared_view of) }
 {
     match of {
         DeclaredType::Plain(ElementType::Worksheet) => Some(34),
-        DeclaredType::Plain(ElementType::Object) => None,
+        DeclaredType::Plain(ElementType::Object) => Some(34),
         _ => Some(27),
     }
 }
 
 /// The rule that an assignment to a member without arguments breaks.
 fn bare_rule(draft: &Draft, member: HostMember) -> Option<u8>
-    ensures { result ≡ plain.written_rule (member_is (draft_view draft.now).tables member) [] }
+    ensures { result ≡ targets_bound.written_rule (member_is (draft_view draft.now).tables member) [] }
 {
     if member.least != 0 {
         return Some(25);
@@ -101,7 +109,7 @@ fn given_rule<'a>(
     shapes: &[Shape<'a>],
 ) -> Result<Option<u8>, NoMemory>
     requires { shapes.now ≢ [] }
-    ensures { IfOk result (λ rule. rule ≡ plain.written_rule (member_is (draft_view draft.now).tables member) (shapes_given shapes.now)) }
+    ensures { IfOk result (λ rule. rule ≡ targets_bound.written_rule (member_is (draft_view draft.now).tables member) (shapes_given shapes.now)) }
 {
     let takes = member_takes(draft, member, shapes)?;
     if takes {
@@ -116,7 +124,7 @@ pub fn written_rule<'a>(
     member: HostMember,
     shapes: &[Shape<'a>],
 ) -> Result<Option<u8>, NoMemory>
-    ensures { IfOk result (λ rule. rule ≡ plain.written_rule (member_is (draft_view draft.now).tables member) (shapes_given shapes.now)) }
+    ensures { IfOk result (λ rule. rule ≡ targets_bound.written_rule (member_is (draft_view draft.now).tables member) (shapes_given shapes.now)) }
 {
     if shapes.is_empty() {
         return Ok(bare_rule(draft, member));

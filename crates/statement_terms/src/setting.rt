@@ -1,12 +1,12 @@
 //! Set: terms that are given a reference to an object.
 
-ghost use Rattle.std.specs.Prelude.{◌≡◌, Bool, true, IfOk, OnOk};
+ghost use Rattle.std.specs.Prelude.{◌≡◌, ◌<◌, ℕ, Bool, true, false, length, IfOk, OnOk};
 ghost use Rattle.vba_base.specs.declared.place.Place as told;
 ghost use Rattle.bound_project.specs.DraftView.{draft_view};
-ghost use Rattle.bound_project.specs.Drafts.{Drafted, NodeNamed};
-ghost use Rattle.statement_terms.specs.Setting.{SetsTerm, is_marked};
+ghost use Rattle.bound_project.specs.Drafts.{NodeNamed};
+ghost use Rattle.statement_terms.specs.Members.{is_err_term};
+ghost use Rattle.statement_terms.specs.Setting.{SetsAlone, SetsTerm, ends_unset, is_marked};
 ghost use Rattle.statement_terms.specs.Terms.{may_be_object};
-ghost use Rattle.statement_terms.specs.Targets.{ends_unassignable};
 ghost use Rattle.bound_members.specs.bound_calls.specs.declared.term.Term.TheVariants as term;
 ghost use Rattle.bound_members.specs.bound_calls.specs.Calls.{node_of};
 ghost use Rattle.bound_members.specs.bound_calls.specs.Standing.{TermNamed};
@@ -15,12 +15,13 @@ ghost use Rattle.bound_project.specs.declared.declared_type.ElementType.TheVaria
 ghost use Rattle.bound_project.specs.declared.node.NodeKind.TheVariants as node;
 ghost use Rattle.bound_project.specs.Pieces.{put};
 
-use crate::member_targets::is_late;
+use crate::member_targets::{is_late, is_value_name};
 use crate::targets::{is_unassignable, may_be_object, numbers_along};
 use bound_members::bound_calls;
 use bound_members::bound_calls::bound_declarations::NotYet;
-use bound_members::bound_calls::{Ending, HostMember, Term, push_node};
+use bound_members::bound_calls::{Ending, HostMember, Term, alone, push_node};
 use bound_project::{ActionKind, DeclaredType, Draft, ElementType, NodeKind};
+use std::alloc::Global;
 use vba_base::{NoMemory, OrMemory, Place, Refusal};
 
 /// What breaks a static rule: so many values that were pushed, at the word Set.
@@ -42,8 +43,8 @@ pub fn push_broken(draft: &mut Draft, set_word: Place, values: u32) -> Result<()
 fn set_reference(draft: &mut Draft, at: Ending, place: Place) -> Result<ActionKind, NoMemory>
     requires named { NodeNamed (draft_view draft.old).tables at.kind }
     requires object { may_be_object at.of ≡ true }
-    ensures { IfOk result (λ kind. (word : told.Place) (bounded lends makes : Bool)
-        → SetsTerm word place (term.Place at.kind at.of bounded lends makes) (draft_view draft.old) (draft_view draft.new) kind) }
+    ensures { IfOk result (λ kind. (word : told.Place) (bounds : ℕ) (lends makes : Bool)
+        → SetsTerm word place (term.Place at.kind at.of bounds lends makes) (draft_view draft.old) (draft_view draft.new) kind) }
 {
     if let Some(numbers) = numbers_along(at.kind) {
         return Ok(ActionKind::SetElement { numbers });
@@ -60,8 +61,8 @@ fn set_place(
     place: Place,
 ) -> Result<ActionKind, OrMemory<NotYet>>
     requires { NodeNamed (draft_view draft.old).tables at.kind }
-    ensures { IfOk result (λ kind. (bounded lends makes : Bool)
-        → SetsTerm set_word place (term.Place at.kind at.of bounded lends makes) (draft_view draft.old) (draft_view draft.new) kind) }
+    ensures { IfOk result (λ kind. (bounds : ℕ) (lends makes : Bool)
+        → SetsTerm set_word place (term.Place at.kind at.of bounds lends makes) (draft_view draft.old) (draft_view draft.new) kind) }
 {
     if may_be_object(at.of) {
         return Ok(set_reference(draft, at, place)?);
@@ -82,23 +83,26 @@ fn is_marked(kind: NodeKind) -> bool
     }
 }
 
-/// A member of an object that is found in the run, behind the reference that it is given and the object.
-pub fn set_member(member: HostMember) -> Result<ActionKind, OrMemory<NotYet>>
-    ensures { IfOk result (λ kind. (word place : told.Place) (d : Drafted) → SetsTerm word place (term.HostMember member) d d kind) }
+/// Is a value with such a node never set: can't it be assigned to, is it Me or an object of the host, or a member's that isn't
+/// Value?
+fn is_unset(draft: &Draft, kind: NodeKind) -> bool
+    ensures { result ≡ ends_unset (draft_view draft.now).tables kind }
 {
-    if !is_late(member.greatest) {
-        return Err(OrMemory::Fault(NotYet));
+    match kind {
+        NodeKind::This => true,
+        NodeKind::HostObject(_) => true,
+        NodeKind::ActiveSheet => true,
+        NodeKind::HostMember { name, .. } => !is_value_name(draft.name(name)),
+        NodeKind::NamedMember { name, .. } => !is_value_name(draft.name(name)),
+        NodeKind::LateMember(found) => !is_value_name(draft.name(found.name)),
+        _ => is_unassignable(kind),
     }
-    Ok(ActionKind::SetMember)
 }
 
-/// What breaks a rule as a value, behind the reference that it is given.
-pub fn set_marked(
-    draft: &mut Draft,
-    set_word: Place,
-    ending: Ending,
-) -> Result<ActionKind, OrMemory<NotYet>>
+/// What breaks a rule as a value, and may be an object, behind the reference that it is given.
+fn set_marked(draft: &mut Draft, set_word: Place, ending: Ending) -> Result<ActionKind, NoMemory>
     requires named { NodeNamed (draft_view draft.old).tables ending.kind }
+    requires object { may_be_object ending.of ≡ true }
     requires marked { is_marked ending.kind ≡ true }
     ensures { IfOk result (λ kind. (place : told.Place) → SetsTerm set_word place (term.Value ending) (draft_view draft.old) (draft_view draft.new) kind) }
 {
@@ -106,28 +110,42 @@ pub fn set_marked(
     Ok(ActionKind::SetMember)
 }
 
-/// A value that can't be assigned to, behind the reference that it is given.
-fn set_constant(
+/// A value that is never set and may be an object, behind the reference that it is given.
+fn set_unset(
     draft: &mut Draft,
     set_word: Place,
     ending: Ending,
     place: Place,
-) -> Result<ActionKind, OrMemory<NotYet>>
+) -> Result<ActionKind, NoMemory>
     requires named { NodeNamed (draft_view draft.old).tables ending.kind }
-    requires constant { ends_unassignable ending.kind ≡ true }
+    requires object { may_be_object ending.of ≡ true }
+    requires other { is_marked ending.kind ≡ false }
+    requires unset { ends_unset (draft_view draft.old).tables ending.kind ≡ true }
     ensures { IfOk result (λ kind. SetsTerm set_word place (term.Value ending) (draft_view draft.old) (draft_view draft.new) kind) }
 {
     push_node(draft, ending.kind, ending.of, place)?;
-    if may_be_object(ending.of) {
-        bound_members::bound_calls::push_broken(draft, 27, place, 2)?;
-        return Ok(ActionKind::Evaluate);
-    }
+    bound_members::bound_calls::push_broken(draft, 27, place, 2)?;
+    Ok(ActionKind::Evaluate)
+}
+
+/// A value that can't be an object, behind the reference that it is given.
+fn set_no_object(
+    draft: &mut Draft,
+    set_word: Place,
+    ending: Ending,
+    place: Place,
+) -> Result<ActionKind, NoMemory>
+    requires named { NodeNamed (draft_view draft.old).tables ending.kind }
+    requires plain { may_be_object ending.of ≡ false }
+    ensures { IfOk result (λ kind. SetsTerm set_word place (term.Value ending) (draft_view draft.old) (draft_view draft.new) kind) }
+{
+    push_node(draft, ending.kind, ending.of, place)?;
     push_broken(draft, set_word, 2)?;
     Ok(ActionKind::Evaluate)
 }
 
 /// A value, behind the reference that it is given.
-fn set_value(
+pub fn set_value(
     draft: &mut Draft,
     set_word: Place,
     ending: Ending,
@@ -136,17 +154,65 @@ fn set_value(
     requires { NodeNamed (draft_view draft.old).tables ending.kind }
     ensures { IfOk result (λ kind. SetsTerm set_word place (term.Value ending) (draft_view draft.old) (draft_view draft.new) kind) }
 {
-    if is_marked(ending.kind) {
-        return set_marked(draft, set_word, ending);
+    if !may_be_object(ending.of) {
+        return Ok(set_no_object(draft, set_word, ending, place)?);
     }
-    if is_unassignable(ending.kind) {
-        return set_constant(draft, set_word, ending, place);
+    if is_marked(ending.kind) {
+        return Ok(set_marked(draft, set_word, ending)?);
+    }
+    if is_unset(draft, ending.kind) {
+        return Ok(set_unset(draft, set_word, ending, place)?);
     }
     Err(OrMemory::Fault(NotYet))
 }
 
-/// A term, behind the reference that it is given.
+/// What a term is where no arguments stand behind it, behind the reference that it is given.
+fn set_alone<'a>(
+    alloc: Global,
+    draft: &mut Draft,
+    set_word: Place,
+    term: Term<'a>,
+    place: Place,
+) -> Result<ActionKind, OrMemory<NotYet>>
+    requires { TermNamed (draft_view draft.old).tables term }
+    ensures { IfOk result (λ kind. SetsAlone set_word place term.entry (draft_view draft.old) (draft_view draft.new) kind) }
+{
+    match alone(alloc, draft, term, place)? {
+        Term::Value(ending) => set_value(draft, set_word, ending, place),
+        _ => Err(OrMemory::Fault(NotYet)),
+    }
+}
+
+/// A member of an object that was pushed, behind the reference that it is given: the run finds that Value isn't set, and of a
+/// member that it finds it decides.
+pub fn set_member(
+    alloc: Global,
+    draft: &mut Draft,
+    set_word: Place,
+    member: HostMember,
+    place: Place,
+) -> Result<ActionKind, OrMemory<NotYet>>
+    requires { member.name < length (draft_view draft.old).tables.constants }
+    ensures { IfOk result (λ kind. SetsTerm set_word place (term.HostMember member) (draft_view draft.old) (draft_view draft.new) kind) }
+{
+    if is_late(member.greatest) || is_value_name(draft.name(member.name)) {
+        return Ok(ActionKind::SetMember);
+    }
+    set_alone(alloc, draft, set_word, Term::HostMember(member), place)
+}
+
+/// What nothing is set, Err and what it does, behind the reference that it is given.
+fn set_err<'a>(draft: &mut Draft, term: Term<'a>, place: Place) -> Result<ActionKind, NoMemory>
+    requires { is_err_term term ≡ true }
+    ensures { IfOk result (λ kind. (word : told.Place) → SetsTerm word place term.entry (draft_view draft.old) (draft_view draft.new) kind) }
+{
+    bound_members::bound_calls::push_broken(draft, 27, place, 1)?;
+    Ok(ActionKind::Evaluate)
+}
+
+/// A term that is no procedure, behind the reference that it is given.
 pub fn set_term<'a>(
+    alloc: Global,
     draft: &mut Draft,
     set_word: Place,
     term: Term<'a>,
@@ -157,8 +223,12 @@ pub fn set_term<'a>(
 {
     match term {
         Term::Place { kind, of, .. } => set_place(draft, set_word, Ending { kind, of }, place),
-        Term::HostMember(member) => set_member(member),
+        Term::HostMember(member) => set_member(alloc, draft, set_word, member, place),
         Term::Value(ending) => set_value(draft, set_word, ending, place),
+        Term::Function(_) => set_alone(alloc, draft, set_word, term, place),
+        Term::Err => Ok(set_err(draft, term, place)?),
+        Term::ErrRaise => Ok(set_err(draft, term, place)?),
+        Term::ErrClear => Ok(set_err(draft, term, place)?),
         _ => Err(OrMemory::Fault(NotYet)),
     }
 }

@@ -16,8 +16,8 @@ pub struct Taker {
     pub is_bounded: bool,
 }
 
-/// What takes the value that a term is assigned: a place, and for a member of an object a Variant. Nothing is told of a
-/// property, whose last parameter takes it, and of what the run finds.
+/// What takes the value that a term is assigned which is no procedure: a place, and for a member of an object a Variant. Nothing
+/// is told of what the run finds.
 pub fn taker_of<'a>(term: Term<'a>) -> Option<Taker>
     ensures { result ≡ taker_of term.entry }
 {
@@ -26,7 +26,10 @@ pub fn taker_of<'a>(term: Term<'a>) -> Option<Taker>
         is_bounded: false,
     };
     match term {
-        Term::Place { of, is_bounded, .. } => Some(Taker { of, is_bounded }),
+        Term::Place { of, bounds, .. } => Some(Taker {
+            of,
+            is_bounded: bounds != 0,
+        }),
         Term::HostMember(_) => Some(variant),
         Term::SheetMember(_) => Some(variant),
         _ => None,

@@ -1,12 +1,12 @@
 //! Places and values that are assigned to, other than members of objects.
 
-ghost use Rattle.std.specs.Prelude.{◌≡◌, true, false, Bool, Option, Some, None, IfOk, IfSome, MatchBool};
+ghost use Rattle.std.specs.Prelude.{◌≡◌, ℕ, true, false, Bool, Option, Some, None, IfOk, IfSome, MatchBool};
 ghost use Rattle.vba_base.specs.declared.place.Place as told;
 ghost use Rattle.bound_project.specs.DraftView.{draft_view};
 ghost use Rattle.bound_project.specs.Drafts.{NodeNamed};
 ghost use Rattle.bound_project.specs.Project as project;
 ghost use Rattle.bound_project.specs.View.{declarations_view, declared_view};
-ghost use Rattle.bound_members.specs.bound_calls.specs.bound_forms.specs.StatementsBound as plain;
+ghost use Rattle.bound_members.specs.bound_calls.specs.bound_forms.specs.Targets as targets;
 ghost use Rattle.bound_members.specs.bound_calls.specs.bound_declarations.specs.constant_values.specs.declared_names.specs.binder.specs.Classes as classes;
 ghost use Rattle.bound_members.specs.bound_calls.specs.bound_declarations.specs.constant_values.specs.declared_names.specs.binder.specs.Types as types;
 ghost use Rattle.statement_terms.specs.Terms.{may_be_object};
@@ -38,7 +38,7 @@ pub fn may_be_object(of: DeclaredType) -> bool
 
 /// Has an object of a type a default member that is written? Of a Variant the run decides.
 pub fn has_written_default(of: DeclaredType) -> bool
-    ensures { result ≡ plain.has_written_default (declared_view of) }
+    ensures { result ≡ targets.has_written_default (declared_view of) }
 {
     match of {
         DeclaredType::Plain(ElementType::Object) => true,
@@ -155,7 +155,8 @@ fn is_value_kind(kind: NodeKind) -> bool
     }
 }
 
-/// Can't a value with such a node be assigned to: a constant, what Err tells, and what is called?
+/// Can't a value with such a node be assigned to: a constant, what Err tells, what is called, a field of what that gives, and
+/// what breaks a rule?
 pub fn is_unassignable(kind: NodeKind) -> bool
     ensures { result ≡ ends_unassignable kind }
 {
@@ -167,6 +168,8 @@ pub fn is_unassignable(kind: NodeKind) -> bool
         NodeKind::CallInOrder { .. } => true,
         NodeKind::Method { .. } => true,
         NodeKind::MethodInOrder { .. } => true,
+        NodeKind::FieldValue { .. } => true,
+        NodeKind::Marked { .. } => true,
         _ => false,
     }
 }
@@ -199,8 +202,8 @@ fn gives_object(ending: Ending) -> bool
 fn assign_plain(draft: &mut Draft, at: Ending, place: Place) -> Result<ActionKind, NoMemory>
     requires named { NodeNamed (draft_view draft.old).tables at.kind }
     requires plain { types.is_object (declared_view at.of) ≡ false }
-    ensures { IfOk result (λ kind. (has bounded lends makes : Bool) (may : Option Bool)
-        → AssignsTerm has may place (term.Place at.kind at.of bounded lends makes) (draft_view draft.old) (draft_view draft.new) kind false) }
+    ensures { IfOk result (λ kind. (has : Bool) (bounds : ℕ) (lends makes : Bool) (may : Option Bool)
+        → AssignsTerm has may place (term.Place at.kind at.of bounds lends makes) (draft_view draft.old) (draft_view draft.new) kind false) }
 {
     if let Some(numbers) = numbers_along(at.kind) {
         return Ok(ActionKind::AssignElement { numbers });
@@ -230,9 +233,9 @@ fn assign_object(
 ) -> Result<ActionKind, NoMemory>
     requires named { NodeNamed (draft_view draft.old).tables at.kind }
     requires object { types.is_object (declared_view at.of) ≡ true }
-    ensures { IfOk result (λ kind. (all : project.Declarations) (of : DeclaredType) (has bounded lends : Bool) (may : Option Bool) → WrittenIs all (record { kind = read_kind makes; of = at.of }) (Known.Type of)
+    ensures { IfOk result (λ kind. (all : project.Declarations) (of : DeclaredType) (has : Bool) (bounds : ℕ) (lends : Bool) (may : Option Bool) → WrittenIs all (record { kind = read_kind makes; of = at.of }) (Known.Type of)
         → IsInstance has (draft_view draft.old).tables (record { kind = read_kind makes; of = at.of }) through
-        → AssignsIn all has may place (term.Place at.kind at.of bounded lends makes) (draft_view draft.old) (draft_view draft.new) kind false) }
+        → AssignsIn all has may place (term.Place at.kind at.of bounds lends makes) (draft_view draft.old) (draft_view draft.new) kind false) }
 {
     push_node(draft, at.kind, at.of, place)?;
     push_node(draft, read_kind(makes), at.of, place)?;
@@ -249,8 +252,8 @@ fn assign_unwritten(
 ) -> Result<ActionKind, NoMemory>
     requires named { NodeNamed (draft_view draft.old).tables at.kind }
     requires object { types.is_object (declared_view at.of) ≡ true }
-    ensures { IfOk result (λ kind. (all : project.Declarations) (has bounded lends : Bool) (may : Option Bool) → WrittenIs all (record { kind = read_kind makes; of = at.of }) (Known.Breaks rule)
-        → AssignsIn all has may place (term.Place at.kind at.of bounded lends makes) (draft_view draft.old) (draft_view draft.new) kind false) }
+    ensures { IfOk result (λ kind. (all : project.Declarations) (has : Bool) (bounds : ℕ) (lends : Bool) (may : Option Bool) → WrittenIs all (record { kind = read_kind makes; of = at.of }) (Known.Breaks rule)
+        → AssignsIn all has may place (term.Place at.kind at.of bounds lends makes) (draft_view draft.old) (draft_view draft.new) kind false) }
 {
     push_node(draft, at.kind, at.of, place)?;
     push_node(draft, read_kind(makes), at.of, place)?;
@@ -260,7 +263,7 @@ fn assign_unwritten(
 
 /// The rule that an assignment to the default member of an object of a kind breaks before the run.
 fn write_rule(kind: HostKind) -> Option<u8>
-    ensures { result ≡ plain.write_rule (Some (kind_view kind)) }
+    ensures { result ≡ targets.write_rule (Some (kind_view kind)) }
 {
     match kind {
         HostKind::Application => Some(34),
@@ -286,7 +289,7 @@ fn type_written(of: DeclaredType) -> Known
 
 /// The same of an object of a kind, and of no class.
 fn kind_written(kind: HostKind, of: DeclaredType) -> Known
-    ensures { known_view result ≡ kind_known (plain.write_rule (Some (kind_view kind))) (declared_view of) }
+    ensures { known_view result ≡ kind_known (targets.write_rule (Some (kind_view kind))) (declared_view of) }
 {
     match write_rule(kind) {
         Some(rule) => Known::Breaks(rule),
@@ -324,8 +327,8 @@ fn assign_through(
 ) -> Result<ActionKind, OrMemory<NotYet>>
     requires named { NodeNamed (draft_view draft.old).tables at.kind }
     requires object { types.is_object (declared_view at.of) ≡ true }
-    ensures { IfOk result (λ kind. (all : project.Declarations) (of : DeclaredType) (bounded lends : Bool) (may : Option Bool) → WrittenIs all (record { kind = read_kind makes; of = at.of }) (Known.Type of)
-        → AssignsIn all has_class may place (term.Place at.kind at.of bounded lends makes) (draft_view draft.old) (draft_view draft.new) kind false) }
+    ensures { IfOk result (λ kind. (all : project.Declarations) (of : DeclaredType) (bounds : ℕ) (lends : Bool) (may : Option Bool) → WrittenIs all (record { kind = read_kind makes; of = at.of }) (Known.Type of)
+        → AssignsIn all has_class may place (term.Place at.kind at.of bounds lends makes) (draft_view draft.old) (draft_view draft.new) kind false) }
 {
     let read = Ending {
         kind: read_kind(makes),
@@ -349,8 +352,8 @@ fn assign_default(
 ) -> Result<ActionKind, OrMemory<NotYet>>
     requires named { NodeNamed (draft_view draft.old).tables at.kind }
     requires object { types.is_object (declared_view at.of) ≡ true }
-    ensures { IfOk result (λ kind. (bounded lends : Bool) (may : Option Bool)
-        → AssignsIn (declarations_view declared.now) has_class may place (term.Place at.kind at.of bounded lends makes) (draft_view draft.old) (draft_view draft.new) kind false) }
+    ensures { IfOk result (λ kind. (bounds : ℕ) (lends : Bool) (may : Option Bool)
+        → AssignsIn (declarations_view declared.now) has_class may place (term.Place at.kind at.of bounds lends makes) (draft_view draft.old) (draft_view draft.new) kind false) }
 {
     let read = Ending {
         kind: read_kind(makes),
@@ -379,8 +382,8 @@ pub fn assign_place(
     declared: &Declarations,
 ) -> Result<ActionKind, OrMemory<NotYet>>
     requires { NodeNamed (draft_view draft.old).tables at.kind }
-    ensures { IfOk result (λ kind. (bounded lends : Bool) (may : Option Bool)
-        → AssignsIn (declarations_view declared.now) has_class may place (term.Place at.kind at.of bounded lends makes) (draft_view draft.old) (draft_view draft.new) kind false) }
+    ensures { IfOk result (λ kind. (bounds : ℕ) (lends : Bool) (may : Option Bool)
+        → AssignsIn (declarations_view declared.now) has_class may place (term.Place at.kind at.of bounds lends makes) (draft_view draft.old) (draft_view draft.new) kind false) }
 {
     if !is_object(at.of) {
         let plain = assign_plain(draft, at, place)?;

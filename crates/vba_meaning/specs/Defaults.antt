@@ -1,6 +1,6 @@
 -- Objects of classes where a value is wanted, indexed or written: their default members, which may be procedures. A use
 -- comes to a value, or to a call with what is then to be done with its result.
-use Rattle.std.specs.Prelude.{ℕ, zero, suc, ◌*◌, nat_lt, ◌&&◌, ◌||◌, List, [], ◌∷◌, ◌++◌, map, Bool, true, false, not, if◌then◌else◌, Option, Some, None, is_none, slice_index_or}
+use Rattle.std.specs.Prelude.{ℕ, zero, suc, ◌*◌, nat_lt, ◌&&◌, ◌||◌, List, [], ◌∷◌, ◌++◌, map, Bool, true, false, not, if◌then◌else◌, Option, Some, None, slice_index_or}
 use Rattle.vba_values.specs.declared.object.HostRef.TheVariants.{Area}
 use Rattle.vba_values.specs.declared.object.ObjRef.TheVariants.{Heap, Host}
 use Rattle.vba_values.specs.declared.value.Bound.{Bound}
@@ -9,6 +9,7 @@ use Rattle.vba_values.specs.Types as type
 use Rattle.vba_values.specs.Val.{Val, empty, missing, object, array}
 use Rattle.sheet_host.specs.Books.{cell_limit}
 use Rattle.bound_project.specs.Project.{Declarations, Declaration, Parameter, ProcedureKind, is_sub, Class, Member, is_variable, is_procedure, is_property, no_class, no_declaration, class_at, procedure_at}
+use Rattle.bound_project.specs.Parameters.{parameters_of, has_parameters, must_be_given, any_must, without_last, last_type}
 use Rattle.vba_meaning.specs.Paths.{in_fields, Root, in_object, in_item, Path}
 use Rattle.vba_meaning.specs.Memory.{Slot, value, Memory, number_of, value_at}
 use Rattle.vba_meaning.specs.Effects.{Effect, Fine, Bad-at, on_fine, done, class_of, is_collection, set_object, fitted, plain, read_path, assigned, packed, slot_left_out}
@@ -90,28 +91,6 @@ variable_in o i makes x = record { root = in_fields o i; steps = []; of = x.of; 
 
 abbrev pub variable_of : Declarations → Val → (field : ℕ) → (makes : Option ℕ) → Memory → Path
 variable_of d v i makes m = variable_in (number_of v) i makes (slice_index_or (class_of_value d v m).fields i no_declaration)
-
-abbrev pub parameters_of : Declarations → (procedure : ℕ) → List Parameter
-parameters_of d p = (procedure_at d p).parameters
-
--- whether something must be given to a parameter, and to one of these
-abbrev pub must_be_given : Parameter → Bool
-must_be_given q = not q.many && is_none q.default
-
-abbrev pub any_must : List Parameter → Bool
-any_must [] = false
-any_must (q ∷ qs) = must_be_given q || any_must qs
-
-abbrev pub without_last : {A : Type 0} → List A → List A
-without_last [] = []
-without_last (x ∷ []) = []
-without_last (x ∷ y ∷ ys) = x ∷ without_last (y ∷ ys)
-
--- the declared type of the value that a Property Let is given
-abbrev pub last_type : List Parameter → Declared
-last_type [] = type.variant
-last_type (q ∷ []) = q.of
-last_type (q ∷ r ∷ rs) = last_type (r ∷ rs)
 
 abbrev pub is_object_type : Declared → Bool
 is_object_type type.object = true
@@ -213,10 +192,6 @@ abbrev pub reader_of : Member → Option ℕ
 reader_of (is_variable i makes) = None
 reader_of (is_procedure p) = Some p
 reader_of (is_property reads lets sets) = reads
-
-abbrev pub has_parameters : List Parameter → Bool
-has_parameters [] = false
-has_parameters (q ∷ qs) = true
 
 -- a default member takes the arguments itself, or passes them on to what it gives
 abbrev pub index_default : Declarations → Val → List Val → Member → (pass : Member → Memory → Effect Next) → Memory → Effect Next

@@ -13,7 +13,8 @@ use Rattle.vba_meaning.specs.Objects.{set_at}
 use Rattle.vba_meaning.specs.Collections.{CollectionMember, is_item, found_or, collection_member, item_found}
 use Rattle.vba_meaning.specs.Host.{as_given, member_there, member_assigned, member_not_set}
 use Rattle.vba_meaning.specs.ByName.{named_there, in_parameter_order}
-use Rattle.vba_meaning.specs.Defaults.{by_let, in_member, Task, as_operand, fit_to, write, let_item, set_item, give_way, Next, gives, then_call, over_with, after_use, is_instance, is_variable_place, class_of_value, variable_of, parameters_of, must_be_given, without_last, last_type, can_be_object, is_sub_kind, has_parameters, read_variable, index_along, in_place, nothing_more, put, let_at, write_along, let_along, set_along, tasks_next, use_then, most_passed}
+use Rattle.bound_project.specs.Parameters.{parameters_of, must_be_given, without_last, last_type, has_parameters}
+use Rattle.vba_meaning.specs.Defaults.{by_let, in_member, Task, as_operand, fit_to, write, let_item, set_item, give_way, Next, gives, then_call, over_with, after_use, is_instance, is_variable_place, class_of_value, variable_of, can_be_object, is_sub_kind, read_variable, index_along, in_place, nothing_more, put, let_at, write_along, let_along, set_along, tasks_next, use_then, most_passed}
 
 -- what is done with a member: it is read or called, assigned to, or set
 pub data Use : Type 0 where

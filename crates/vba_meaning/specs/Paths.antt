@@ -25,8 +25,8 @@ pub record Step : Type 0 where
   pub moves : Bool
 
 -- a path leads to a value: to a variable, then to fields and elements inside it. It has the declared type of what is
--- there, whether that is an array declared with bounds, and the class of which an object is made where it is read while
--- it has Nothing, if it is declared As New
+-- there, whether that is an array declared with bounds, and the class of which an object is made where it, or an element
+-- of it, is read while it has Nothing, if it is declared As New
 pub record Path : Type 0 where
   pub root : Root
   pub steps : List Step
@@ -40,7 +40,7 @@ plain_steps (s ∷ steps) = s.step ∷ plain_steps steps
 
 -- the path of an element, and of a field
 abbrev pub element_path : Path → (offset : ℕ) → Declared → Path
-element_path p offset of = record { root = p.root; steps = p.steps ++ record { step = Element offset; moves = not p.bounded } ∷ []; of = of; bounded = false; makes = None }
+element_path p offset of = record { root = p.root; steps = p.steps ++ record { step = Element offset; moves = not p.bounded } ∷ []; of = of; bounded = false; makes = p.makes }
 
 abbrev pub field_path : Path → (field : ℕ) → Declared → (bounded : Bool) → Path
 field_path p i of bounded = record { root = p.root; steps = p.steps ++ record { step = Field i; moves = false } ∷ []; of = of; bounded = bounded; makes = None }

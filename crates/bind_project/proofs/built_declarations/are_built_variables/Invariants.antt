@@ -8,8 +8,8 @@ use Rattle.bind_project.proofs.built_declarations.are_built_variables.Given as g
 
 abbrev pub invariant-variables : goal.invariant-variables
 invariant-variables l =
-    list_all (is_built_variable (scope_view l.scope)) (items_of (map (λ next. (next.mark, variable_view next.item)) l.left))
-    ≡ list_all (is_built_variable (scope_view l.scope)) (all_of (listed_view variable_view l.list))
+    list_all (is_built_variable (scope_view l.scope) l.is_open) (items_of (map (λ next. (next.mark, variable_view next.item)) l.left))
+    ≡ list_all (is_built_variable (scope_view l.scope) l.is_open) (all_of (listed_view variable_view l.list))
 
 abbrev pub decreases-variables : goal.decreases-variables
 decreases-variables l = length l.left

@@ -8,7 +8,8 @@ use Rattle.bound_project.specs.declared.statement.ActionKind.{ActionKind}
 use Rattle.bound_project.specs.Statements as to
 use Rattle.bound_project.specs.DraftView.{draft_view}
 use Rattle.bound_names.specs.bound_members.specs.bound_calls.specs.bound_forms.specs.ExpressionsBound.{bound_as_given}
-use Rattle.bound_names.specs.bound_members.specs.bound_calls.specs.bound_forms.specs.StatementsBound.{assigned_to, ends_line, event_arguments, event_raised, items_shown, set_given, value_given, value_shown}
+use Rattle.bound_names.specs.bound_members.specs.bound_calls.specs.bound_forms.specs.Targets.{assigned_to, set_given, value_given}
+use Rattle.bound_names.specs.bound_members.specs.bound_calls.specs.bound_forms.specs.StatementsBound.{ends_line, event_arguments, event_raised, items_shown, value_shown}
 use Rattle.bound_names.specs.View.{env_view}
 use Rattle.statement_nodes.specs.Pushed.{ActionPushed, ActionStands}
 use Rattle.statement_nodes.specs.statement_numbers.specs.View.{standing_view}

@@ -7,7 +7,7 @@ returns-in_ok-field-in-Some c = record {
   declaration = declaration_view c.in-Some.declaration.now;
   is = sym c.in-Some.ensures ∙ ap (λ (n : ℕ). Some (n, declaration_view c.in-Some.declaration.now)) (sym c.in_ok-field-in-Some.ensures.number);
   of_is = sym c.in_ok-field-in-Some.ensures.of;
-  bounded_is = sym c.in_ok-field-in-Some.ensures.bounded;
+  bounds_are = sym c.in_ok-field-in-Some.ensures.bounds;
 }
 
 pub returns-in-None : goal.returns-in-None

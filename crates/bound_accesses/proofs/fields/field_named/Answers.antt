@@ -1,7 +1,7 @@
 use Rattle.std.proofs.Common.{List, subst, ap, ◌∙◌}
 use Rattle.std.specs.Prelude.{IfOk, slice_index_or}
 use Rattle.bound_project.specs.Project.{Declaration, UserType}
-use Rattle.bound_names.specs.bound_members.specs.bound_calls.specs.bound_forms.specs.ExpressionsBound.{no_type}
+use Rattle.bound_names.specs.bound_members.specs.bound_calls.specs.bound_forms.specs.Members.{no_type}
 use Rattle.binder.specs.Scopes.{first_at}
 use Rattle.bound_accesses.specs.Fields.{FieldIs, is_field_named}
 use Rattle.bound_accesses.proofs.Fielding.{types_are}

@@ -17,7 +17,7 @@ returns-in-Place c =
     let d = draft_view c.args.draft.now in
     let e = draft_view c.place_item.new.draft in
     let P : Term → Type 0 = λ (t : Term). IfOk c.place_item.result (λ y. MakesItem (env_view c.args.env) c.args.place t d e y) in
-    subst P (sym p.is) (IfOk-weaker c.place_item.result _ _ (λ y h. h p.is_bounded p.lends (subst IsObject p.is c.requires.object)) c.place_item.ensures)
+    subst P (sym p.is) (IfOk-weaker c.place_item.result _ _ (λ y h. h p.bounds p.lends (subst IsObject p.is c.requires.object)) c.place_item.ensures)
 
 pub returns-in-Value : goal.returns-in-Value
 unfolding IsObject

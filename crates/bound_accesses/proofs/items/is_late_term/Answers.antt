@@ -11,7 +11,7 @@ returns-in-Place c =
     let t = (draft_view c.args.draft.now).tables in
     let p = c.in-Place in
     let A : Term → Type 0 = λ (x : Term). MatchBool c.is_known_late.result (KeepsTerm c.args.has_class t x) (Unit {0}) in
-    subst A (sym p.is) (late_at c.args.has_class t p.kind c.read_kind.result p.of p.is_bounded p.lends p.makes c.is_known_late.result c.read_kind.ensures c.is_known_late.ensures)
+    subst A (sym p.is) (late_at c.args.has_class t p.kind c.read_kind.result p.of p.bounds p.lends p.makes c.is_known_late.result c.read_kind.ensures c.is_known_late.ensures)
 
 pub returns-in-Value : goal.returns-in-Value
 returns-in-Value c =

@@ -9,4 +9,4 @@ pub behind_plain_place-requires-clause-class : goal.behind_plain_place-requires-
 behind_plain_place-requires-clause-class c = sym c.in-None.ensures
 
 pub returns-in-Some : goal.returns-in-Some
-returns-in-Some c = IfOk-weaker c.behind_class_place.result _ _ (λ y m bounded. m bounded c.args.lends) c.behind_class_place.ensures
+returns-in-Some c = IfOk-weaker c.behind_class_place.result _ _ (λ y m bounds. m bounds c.args.lends) c.behind_class_place.ensures

@@ -4,7 +4,7 @@ use Rattle.vba_base.specs.declared.place.Place.{Place}
 use Rattle.vba_values.specs.Types as type
 use Rattle.bound_project.specs.Expressions.{err_value, err_number, err_source, err_description, no_exprs}
 use Rattle.bound_names.specs.bound_members.specs.bound_calls.specs.bound_forms.specs.Terms.{Term, a_value, broken_value, err_raise, err_clear}
-use Rattle.bound_names.specs.bound_members.specs.bound_calls.specs.bound_forms.specs.ExpressionsBound.{err_member}
+use Rattle.bound_names.specs.bound_members.specs.bound_calls.specs.bound_forms.specs.Members.{err_member}
 use Rattle.bound_names.specs.bound_members.specs.bound_calls.specs.Steps.{MakesLeaf}
 use Rattle.bound_names.proofs.NamedTerms.{leaf_as}
 use Rattle.bound_accesses.proofs.members.err_member.Goals as goal

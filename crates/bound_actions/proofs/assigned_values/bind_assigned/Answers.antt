@@ -2,7 +2,7 @@ use Rattle.std.proofs.Common.{Bool, Option, sym, subst, ◌∙◌}
 use Rattle.vba_expression.specs.View.{view as expression_view}
 use Rattle.bound_project.specs.DraftView.{draft_view}
 use Rattle.bound_terms.specs.bound_accesses.specs.bound_names.specs.View.{env_view}
-use Rattle.bound_terms.specs.bound_accesses.specs.bound_names.specs.bound_members.specs.bound_calls.specs.bound_forms.specs.StatementsBound.{value_given}
+use Rattle.bound_terms.specs.bound_accesses.specs.bound_names.specs.bound_members.specs.bound_calls.specs.bound_forms.specs.Targets.{value_given}
 use Rattle.statement_terms.specs.Assigning.{ValueFor}
 use Rattle.statement_terms.proofs.GivenValues.{value_bound, value_kept, value_marked}
 use Rattle.bound_actions.proofs.assigned_values.bind_assigned.Goals as goal

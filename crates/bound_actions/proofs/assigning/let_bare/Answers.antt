@@ -1,4 +1,5 @@
 use Rattle.std.proofs.Common.{[], sym, subst, ◌∙◌}
+use Rattle.std.proofs.lemmas.Result.{IfOk-weaker}
 use Rattle.bound_project.specs.DraftView.{draft_view}
 use Rattle.bound_project.specs.declared.statement.ActionKind.{ActionKind}
 use Rattle.bound_terms.specs.bound_accesses.specs.bound_names.specs.View.{env_view}
@@ -21,6 +22,7 @@ returns c =
 pub returns-then-not-takes_none : goal.returns-then-not-takes_none
 returns-then-not-takes_none c =
     let g = c.in_ok-property in
-    let k = c.in_ok-kind in
-    lets_refused c.args.sets (env_view c.args.env) c.args.writer g.property g.front.now c.args.place (draft_view c.args.draft.now) (draft_view c.refuse_none.new.draft) k.kind c.requires.writer g.ensures
-    (sym c.takes_none.ensures ∙ c.if-not-takes_none.true) k.ensures
+    let d = draft_view c.args.draft.now in
+    let e = draft_view c.break_procedure.new.draft in
+    IfOk-weaker c.break_procedure.result _ _
+    (λ k b. lets_refused c.args.sets (env_view c.args.env) c.args.writer g.property g.front.now c.args.place d e k c.requires.writer g.ensures (sym c.takes_none.ensures ∙ c.if-not-takes_none.true) b) c.break_procedure.ensures

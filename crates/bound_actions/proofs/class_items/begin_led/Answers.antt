@@ -26,7 +26,7 @@ led_as_place-requires-clause-class c = (let K : Term → Type 0 = λ (x : Term).
 pub returns-in-Place : goal.returns-in-Place
 returns-in-Place c =
     let P : Term → Type 0 = λ (x : Term). IfOk c.begin_place.result (λ i. BeginsAt (env_view c.args.env) c.args.tree.place x (draft_view c.args.draft.now) (draft_view c.begin_place.new.draft) i) in
-    subst P (sym c.in-Place.is) (IfOk-weaker c.begin_place.result _ _ (λ i b. b c.in-Place.is_bounded) c.begin_place.ensures)
+    subst P (sym c.in-Place.is) (IfOk-weaker c.begin_place.result _ _ (λ i b. b c.in-Place.bounds) c.begin_place.ensures)
 
 pub returns-in-Value : goal.returns-in-Value
 returns-in-Value c =

@@ -33,4 +33,4 @@ returns-then-is_empty c =
     c.in-Some-Member.ensures ∙ ap (λ i. i ∷ reverse v.items) c.in-Some-Member.field-0-is ∙ ap (λ l. item.Member c.in-Some-Member.more ∷ l) none in
     let A : List Item → Type 0 = λ l. Goes env d l e (reverse c.run.new.stack.items) (λ is. behind_nodes is ns) in
     let B : List Item → Type 0 = λ l. Goes env d (item.Member c.args.call ∷ []) e l (λ is. behind_nodes is ns) in
-    record { behind = ns; is = m.ensures.cases.0 ∙ ap (λ (n : ExpressionNode). n ∷ ns) m.field-0-0-is; goes = subst B end (subst A start c.in_ok-run.ensures) }
+    record { behind = ns; is = m.ensures.cases.0 ∙ ap (λ (n : ExpressionNode). n ∷ ns) m.field-0-0-is; goes = subst B end (subst A start c.in_ok-run.ensures); no_property = c.if-more.false }

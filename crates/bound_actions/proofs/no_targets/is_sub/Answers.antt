@@ -6,8 +6,8 @@ use Rattle.bound_actions.proofs.no_targets.is_sub.Goals as goal
 
 pub returns-in-Routine : goal.returns-in-Routine
 returns-in-Routine c =
-    let A : Term → Type 0 = λ (t : Term). IsSub t c.is_sub_routine.result in
-    subst A (sym c.in-Routine.is) (routine_sub c.in-Routine.routine c.is_sub_routine.result c.is_sub_routine.ensures)
+    let A : Term → Type 0 = λ (t : Term). IsSub t c.is_sub_kind.result in
+    subst A (sym c.in-Routine.is) (routine_sub c.in-Routine.routine c.is_sub_kind.result c.is_sub_kind.ensures)
 
 pub returns-in_default : goal.returns-in_default
 returns-in_default c = other_sub c.args.term c.in_default.not-Routine

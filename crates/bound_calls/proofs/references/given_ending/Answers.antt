@@ -1,18 +1,9 @@
-use Rattle.std.proofs.Common.{Option, sym, subst, ◌∙◌}
 use Rattle.std.proofs.lemmas.Result.{IfOk-weaker}
 use Rattle.bound_project.specs.DraftView.{draft_view}
-use Rattle.bound_calls.specs.declared.term.Ending.{Ending}
-use Rattle.bound_calls.specs.Taking.{TakesValue}
-use Rattle.bound_calls.proofs.Referring.{given_reference, given_value}
+use Rattle.bound_calls.proofs.Referring.{given_alone}
 use Rattle.bound_calls.proofs.references.given_ending.Goals as goal
-
-pub returns-then-refers : goal.returns-then-refers
-returns-then-refers c =
-    IfOk-weaker c.reference_ending.result _ _ (λ v h. given_reference c.args.term c.args.place (draft_view c.args.draft.now) (draft_view c.reference_ending.new.draft) v (sym c.refers.ensures ∙ c.if-refers.true) h) c.reference_ending.ensures
 
 pub returns : goal.returns
 returns c =
-    let d = draft_view c.args.draft.now in
-    let e = draft_view c.value_ending.new.draft in
-    let P : Option Ending → Type 0 = λ o. TakesValue c.args.term c.args.place d e o in
-    given_value c.args.term c.args.place d e c.in-Some.ending (subst P c.in-Some.is c.in_ok-ending.ensures)
+    IfOk-weaker c.read_given.result _ _
+    (λ v h. given_alone c.args.term c.args.place (draft_view c.args.draft.now) (draft_view c.alone.new.draft) (draft_view c.read_given.new.draft) c.in_ok-made.made v c.in_ok-made.ensures h) c.read_given.ensures

@@ -3,7 +3,8 @@ use Rattle.std.specs.Prelude.{Option, option_and_then}
 use Rattle.vba_expression.specs.View.{view as expression_view}
 use Rattle.bound_project.specs.declared.statement.ActionKind.TheVariants as kind
 use Rattle.bound_project.specs.DraftView.{draft_view}
-use Rattle.bound_terms.specs.bound_accesses.specs.bound_names.specs.bound_members.specs.bound_calls.specs.bound_forms.specs.ExpressionsBound.{bound_as_given, place_told}
+use Rattle.bound_terms.specs.bound_accesses.specs.bound_names.specs.bound_members.specs.bound_calls.specs.bound_forms.specs.Operands.{place_told}
+use Rattle.bound_terms.specs.bound_accesses.specs.bound_names.specs.bound_members.specs.bound_calls.specs.bound_forms.specs.ExpressionsBound.{bound_as_given}
 use Rattle.constant_values.specs.declared_names.specs.binder.specs.Numbering.{behind_block, here, sought_behind}
 use Rattle.bound_terms.specs.bound_accesses.specs.bound_names.specs.bound_members.specs.bound_calls.specs.bound_forms.specs.StatementsBound.{for_each_of, loop_variable}
 use Rattle.statement_nodes.specs.Actions.{GroupPushed}

@@ -18,4 +18,4 @@ returns c =
     let n = draft_view c.look_up.new.draft in
     let e = draft_view c.push_node.new.draft in
     let P : NodeKind → Type 0 = λ (k : NodeKind). e ≡ record n { pieces = put n.tables (node_of k c.args.place c.args.member.of) n.pieces } in
-    opens_member c.args.has_class c.args.place c.args.member c.in_ok-looked.looked (draft_view c.args.draft.now) n e c.requires c.in_ok-looked.ensures (subst P c.there_kind-there.ensures c.in_ok-push_node.ensures)
+    opens_member c.args.has_class c.args.of_property c.args.place c.args.member c.in_ok-looked.looked (draft_view c.args.draft.now) n e c.requires c.in_ok-looked.ensures (subst P c.there_kind-there.ensures c.in_ok-push_node.ensures)

@@ -1,6 +1,6 @@
 use Rattle.std.proofs.Common.{◌≡◌, ℕ, List, Some, None, sym, subst, ◌∙◌}
 use Rattle.bound_project.specs.DraftView.{draft_view}
-use Rattle.bound_calls.specs.bound_forms.specs.ExpressionsBound.{member_in}
+use Rattle.bound_calls.specs.bound_forms.specs.Members.{member_in}
 use Rattle.bound_members.specs.Kinds.{kind_view}
 use Rattle.bound_members.specs.Members.{found_member}
 use Rattle.bound_members.proofs.Finding.{finds_none}

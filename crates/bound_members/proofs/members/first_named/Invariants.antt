@@ -1,5 +1,5 @@
 use Rattle.std.proofs.Common.{◌≡◌, map, drop}
-use Rattle.bound_calls.specs.bound_forms.specs.ExpressionsBound.{listed_member}
+use Rattle.bound_calls.specs.bound_forms.specs.Members.{listed_member}
 use Rattle.bound_members.specs.Members.{entry_member}
 use Rattle.bound_members.proofs.members.first_named.Given as goal
 

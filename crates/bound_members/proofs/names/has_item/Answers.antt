@@ -2,7 +2,7 @@ use Rattle.std.proofs.Common.{ℕ, ◌==◌, ◌||◌, not, List, map, sym, ap, 
 use Rattle.std.specs.List.{list_any}
 use Rattle.bound_project.specs.DraftView.{draft_view}
 use Rattle.bound_project.specs.Pieces.{by_name_in, name_in}
-use Rattle.bound_calls.specs.bound_forms.specs.ExpressionsBound.{is_item_name}
+use Rattle.bound_calls.specs.bound_forms.specs.Operands.{is_item_name}
 use Rattle.bound_members.proofs.names.has_item.Goals as goal
 
 pub returns-then-not-is_add : goal.returns-then-not-is_add

@@ -2,7 +2,7 @@ use Rattle.std.proofs.Common.{◌≡◌, map, drop}
 use Rattle.std.specs.List.{list_any}
 use Rattle.bound_project.specs.DraftView.{draft_view}
 use Rattle.bound_project.specs.Pieces.{name_in}
-use Rattle.bound_calls.specs.bound_forms.specs.ExpressionsBound.{is_item_name}
+use Rattle.bound_calls.specs.bound_forms.specs.Operands.{is_item_name}
 use Rattle.bound_members.proofs.names.names_item.Given as goal
 
 abbrev pub invariant-loop-constant : goal.invariant-loop-constant

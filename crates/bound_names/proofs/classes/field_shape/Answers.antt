@@ -10,6 +10,6 @@ pub returns-clause-shape : goal.returns-clause-shape
 returns-clause-shape c =
     let there = c.requires.there in
     field_is c.args.env.constants.scope c.args.env.declared.now (space_view c.args.space.now) c.args.number (entry_view c.args.entry) (variable_view c.args.variable.now) c.in_ok-class_number.class_number c.in_ok-field.field
-    (class_view c.in-Some.class.now) (declaration_view c.in-Some-declaration_at.declaration.now) c.known_shape.result c.requires.env.placed.numbered c.requires.env.declared there.0 there.1 c.requires.class c.requires.what
-    c.in_ok-class_number.ensures c.in_ok-field.ensures c.in-Some.ensures
-    (c.in-Some-declaration_at.ensures ∙ sym (slice_get-map declaration_view c.in-Some.class.now.fields.items c.in_ok-field.field)) c.known_shape.ensures
+    (class_view c.in-Some.class.now) (declaration_view c.in-Some-declaration_at.declaration.now) c.in_ok-shape.shape c.requires.env.placed.numbered c.requires.env.declared there.0 there.1 c.requires.class c.requires.what
+    c.in_ok-class_number.ensures c.in_ok-field.ensures c.in-Some.ensures.found
+    (c.in-Some-declaration_at.ensures ∙ sym (slice_get-map declaration_view c.in-Some.class.now.fields.items c.in_ok-field.field)) c.in_ok-shape.ensures

@@ -1,4 +1,4 @@
-use Rattle.std.proofs.Common.{true, false, sym, subst}
+use Rattle.std.proofs.Common.{◌==◌, true, false, not, sym, subst}
 use Rattle.vba_tree.specs.View.{variable_view}
 use Rattle.bound_project.specs.DraftView.{draft_view}
 use Rattle.bound_project.specs.declared.node.NodeKind.TheVariants as kinds
@@ -18,7 +18,7 @@ returns-in-None c =
     let d = draft_view c.args.draft.now in
     let x = c.in_ok-field.shape in
     let i = c.in_ok-field.field in
-    let P : What → Type 0 = λ (w : What). MakesEntryOf env space c.args.number (record { name = e.name.now; is_public = e.is_public; what = w }) d d (term.Place (kinds.ObjectField i x.of x.is_bounded) x.of x.is_bounded false false) in
+    let P : What → Type 0 = λ (w : What). MakesEntryOf env space c.args.number (record { name = e.name.now; is_public = e.is_public; what = w }) d d (term.Place (kinds.ObjectField i x.of (not (x.bounds == 0))) x.of x.bounds false false) in
     subst P (sym c.requires.what)
     (variable_there env space c.args.number e.name.now e.is_public (variable_view c.args.variable.now) i x d c.in_ok-field.ensures.shape c.in_ok-field.ensures.number c.in-None.ensures)
 
@@ -31,7 +31,7 @@ returns-in_ok-push_node-in-Some c =
     let g = draft_view c.push_node.new.draft in
     let x = c.in_ok-field.shape in
     let i = c.in_ok-field.field in
-    let P : What → Type 0 = λ (w : What). MakesEntryOf env space c.args.number (record { name = e.name.now; is_public = e.is_public; what = w }) d g (term.Place (kinds.AsNew c.in-Some.class) x.of x.is_bounded false true) in
+    let P : What → Type 0 = λ (w : What). MakesEntryOf env space c.args.number (record { name = e.name.now; is_public = e.is_public; what = w }) d g (term.Place (kinds.AsNew c.in-Some.class) x.of x.bounds false true) in
     subst P (sym c.requires.what)
     (variable_made env space c.args.number e.name.now e.is_public (variable_view c.args.variable.now) i c.in-Some.class x c.args.place d g c.in_ok-field.ensures.shape c.in_ok-field.ensures.number c.in-Some.ensures
     c.in_ok-push_node-in-Some.ensures)

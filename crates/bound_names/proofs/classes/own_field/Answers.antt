@@ -21,6 +21,6 @@ returns c =
     let x = c.in_ok-field.shape in
     let i = c.in_ok-field.field in
     let making : Making = c.making_of.result in
-    λ d. leaf_as env d d c.variable_term.result (made_term making (own i) (declared_view x.of) x.is_bounded) (variable_term (home s space) (own (field_number space c.args.number)) v)
-    (ap (λ (m : Making). made_term m (own i) (declared_view x.of) x.is_bounded) (c.making_of.ensures ∙ ap making_of c.made_by-made.ensures)
+    λ d. leaf_as env d d c.variable_term.result (made_term making (own i) (declared_view x.of) x.bounds) (variable_term (home s space) (own (field_number space c.args.number)) v)
+    (ap (λ (m : Making). made_term m (own i) (declared_view x.of) x.bounds) (c.making_of.ensures ∙ ap making_of c.made_by-made.ensures)
     ∙ sym (declared_kept (home s space) v (own i) x c.in_ok-field.ensures.shape) ∙ ap (λ (n : ℕ). variable_term (home s space) (own n) v) c.in_ok-field.ensures.number) (c.variable_term.ensures env d)

@@ -24,7 +24,7 @@ returns c =
     let making : Making = c.making_of.result in
     let is_shape = shared_is scope c.args.env.declared.now space c.args.number (entry_view c.args.entry) v kept x c.requires.env.placed.numbered c.requires.env.declared there.0 there.1 c.requires.standard c.requires.what c.in_ok-kept.ensures
     c.in_ok-shape.ensures in
-    λ d. leaf_as env d d c.variable_term.result (made_term making kept (declared_view x.of) x.is_bounded) (variable_term (home (scope_view scope) space) (module_storage (scope_view scope) space c.args.number) v)
-    (ap (λ (m : Making). made_term m kept (declared_view x.of) x.is_bounded) (c.making_of.ensures ∙ ap making_of c.made_by-made.ensures)
+    λ d. leaf_as env d d c.variable_term.result (made_term making kept (declared_view x.of) x.bounds) (variable_term (home (scope_view scope) space) (module_storage (scope_view scope) space c.args.number) v)
+    (ap (λ (m : Making). made_term m kept (declared_view x.of) x.bounds) (c.making_of.ensures ∙ ap making_of c.made_by-made.ensures)
     ∙ sym (declared_kept (home (scope_view scope) space) v kept x is_shape)
     ∙ ap (λ k. variable_term (home (scope_view scope) space) k v) c.in_ok-kept.ensures) (c.variable_term.ensures env d)

@@ -13,5 +13,5 @@ returns c =
     let l = local_view c.args.local in
     let x = c.in_ok-shape.shape in
     let making = c.in_ok-shape.making in
-    λ d y. leaf_as env d d c.variable_term.result (made_term making (storage_view c.in_ok-storage.storage) (declared_view x.of) x.is_bounded) (own_term env y c.args.number l)
-    (ap (λ kept. made_term making kept (declared_view x.of) x.is_bounded) c.in_ok-storage.ensures ∙ sym (c.in_ok-shape.ensures env y c.args.number refl)) (c.variable_term.ensures env d)
+    λ d y. leaf_as env d d c.variable_term.result (made_term making (storage_view c.in_ok-storage.storage) (declared_view x.of) x.bounds) (own_term env y c.args.number l)
+    (ap (λ kept. made_term making kept (declared_view x.of) x.bounds) c.in_ok-storage.ensures ∙ sym (c.in_ok-shape.ensures env y c.args.number refl)) (c.variable_term.ensures env d)

@@ -9,5 +9,5 @@ returns c = record {
   kept_is = ap storage_view c.in-Shared.is;
   declaration = declaration_view c.in-Some.declaration.now;
   at = slice_get-map declaration_view c.args.declared.now.shared.items c.in-Shared.number ∙ sym c.in-Some.ensures;
-  shape = c.known_shape.ensures;
+  shape = c.in_ok-shape.ensures;
 }

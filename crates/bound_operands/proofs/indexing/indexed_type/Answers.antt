@@ -4,7 +4,7 @@ use Rattle.bound_project.specs.declared.declared_type.DeclaredType.{DeclaredType
 use Rattle.bound_project.specs.DraftView.{draft_view}
 use Rattle.bound_project.specs.Pieces.{Tables}
 use Rattle.bound_project.specs.View.{declared_view}
-use Rattle.bound_members.specs.bound_calls.specs.bound_forms.specs.ExpressionsBound.{element_type}
+use Rattle.bound_members.specs.bound_calls.specs.bound_forms.specs.Operands.{element_type}
 use Rattle.bound_members.specs.bound_calls.specs.declared.term.Ending.{Ending}
 use Rattle.bound_members.specs.bound_calls.specs.References.{NoInstance}
 use Rattle.bound_members.specs.bound_calls.proofs.LastNodes.{no_instance}

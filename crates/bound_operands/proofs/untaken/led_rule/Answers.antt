@@ -1,6 +1,6 @@
 use Rattle.std.proofs.Common.{ℕ, ◌==◌, Bool, ◌&&◌, Some, None, if◌then◌else◌, sym, ap, ◌∙◌}
 use Rattle.std.proofs.lemmas.List.{length-map}
-use Rattle.bound_members.specs.bound_calls.specs.bound_forms.specs.ExpressionsBound.{are_places}
+use Rattle.bound_members.specs.bound_calls.specs.bound_forms.specs.Operands.{are_places}
 use Rattle.bound_members.specs.bound_calls.specs.Shapes.{shape_given, shapes_given}
 use Rattle.bound_operands.proofs.untaken.led_rule.Goals as goal
 

@@ -13,9 +13,9 @@ push_whole-requires c =
     subst N c.in-Value.is c.in_ok-item.ensures.named
 
 pub returns : goal.returns
-returns c =
+returns c = λ b.
     let d = draft_view c.args.draft.now in
     let e = draft_view c.item_term.new.draft in
     let f = draft_view c.push_whole.new.draft in
     let M : Term → Type 0 = λ (t : Term). MakesItem (env_view c.args.env) c.args.tree.place c.args.term d e t in
-    opens_lacking (env_view c.args.env) c.args.env.has_class c.args.tree c.args.term c.in-Value.ending c.in_ok-indexed.indexed d e f (sym c.args.env.has_class_is) (subst M c.in-Value.is c.in_ok-item.ensures) c.in_ok-indexed.ensures
+    opens_lacking b (env_view c.args.env) c.args.env.has_class c.args.tree c.args.term c.in-Value.ending c.in_ok-indexed.indexed d e f (sym c.args.env.has_class_is) (subst M c.in-Value.is c.in_ok-item.ensures) c.in_ok-indexed.ensures

@@ -20,12 +20,7 @@ returns-in-Function c =
 pub returns-in-Place : goal.returns-in-Place
 returns-in-Place c =
     let P : Term → Type 0 = λ (t : Term). IfOk c.open_indexed.result (λ i. OpensTerm (env_view c.args.env) c.args.tree t (draft_view c.args.draft.now) (draft_view c.open_indexed.new.draft) i) in
-    subst P (sym c.in-Place.is) (IfOk-weaker c.open_indexed.result _ _ (λ i o. o c.in-Place.is_bounded) c.open_indexed.ensures)
-
-pub returns-in-Value : goal.returns-in-Value
-returns-in-Value c =
-    let P : Term → Type 0 = λ (t : Term). IfOk c.open_whole.result (λ i. OpensTerm (env_view c.args.env) c.args.tree t (draft_view c.args.draft.now) (draft_view c.open_whole.new.draft) i) in
-    subst P (sym c.in-Value.is) c.open_whole.ensures
+    subst P (sym c.in-Place.is) c.open_indexed.ensures
 
 pub returns-in-Routine : goal.returns-in-Routine
 returns-in-Routine c =

@@ -1,5 +1,5 @@
 use Rattle.std.proofs.Common.{ap, sym, ◌∙◌}
-use Rattle.vba_meaning.specs.Defaults.{without_last}
+use Rattle.bound_project.specs.Parameters.{without_last}
 use Rattle.bound_project.specs.Project.{procedure_at}
 use Rattle.bound_project.specs.View.{declarations_view}
 use Rattle.class_defaults.specs.Known.{way_view}

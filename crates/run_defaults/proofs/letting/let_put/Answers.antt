@@ -3,7 +3,7 @@ use Rattle.vba_values.specs.Val.{object}
 use Rattle.vba_values.specs.View.{view}
 use Rattle.bound_project.specs.View.{declarations_view, parameter_view}
 use Rattle.vba_meaning.specs.Effects.{slot_values}
-use Rattle.vba_meaning.specs.Defaults.{parameters_of, without_last}
+use Rattle.bound_project.specs.Parameters.{parameters_of, without_last}
 use Rattle.run_memory.specs.View.{memory_view, slot_view}
 use Rattle.run_defaults.proofs.Going.{act_refused, act_then, use_same}
 use Rattle.run_defaults.proofs.Passing.{put_with}

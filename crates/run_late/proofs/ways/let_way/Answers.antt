@@ -2,7 +2,7 @@ use Rattle.std.proofs.Common.{sym, ap, ◌∙◌}
 use Rattle.std.specs.Prelude.{ℕ, Option}
 use Rattle.bound_project.specs.Project.{is_property}
 use Rattle.bound_project.specs.View.{declarations_view}
-use Rattle.vba_meaning.specs.Defaults.{without_last}
+use Rattle.bound_project.specs.Parameters.{without_last}
 use Rattle.vba_meaning.specs.LateBound.{assigned_way}
 use Rattle.run_late.proofs.Uses.{let_lacks, let_left, taken_none}
 use Rattle.run_late.proofs.ways.let_way.Goals as goal

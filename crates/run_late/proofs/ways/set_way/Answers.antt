@@ -1,6 +1,6 @@
 use Rattle.std.proofs.Common.{sym, ap, ◌∙◌}
 use Rattle.bound_project.specs.View.{declarations_view}
-use Rattle.vba_meaning.specs.Defaults.{without_last}
+use Rattle.bound_project.specs.Parameters.{without_last}
 use Rattle.vba_meaning.specs.LateBound.{set_by}
 use Rattle.run_late.proofs.Uses.{set_lacks, set_left, taken_none}
 use Rattle.run_late.proofs.ways.set_way.Goals as goal

@@ -2,7 +2,7 @@ use Rattle.std.proofs.Common.{ℕ, List, ◌++◌, map, refl, ap, ◌∙◌}
 use Rattle.std.specs.Prelude.{None, Option}
 use Rattle.bound_project.specs.Project.{first_values}
 use Rattle.bound_project.specs.View.{declarations_view}
-use Rattle.run_objects.proofs.Numbered.{new_by}
+use Rattle.run_objects.proofs.NewObjects.{new_by}
 use Rattle.run_objects.proofs.instances.new_instance.Goals as goal
 
 pub returns : goal.returns

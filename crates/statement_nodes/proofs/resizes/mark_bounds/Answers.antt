@@ -10,4 +10,4 @@ pub returns : goal.returns
 returns c =
     on_ok_weaker c.push_node.result
     (λ h. other_marked c.args.of (option_map declared_view c.args.written) c.args.place c.args.bounds (draft_view c.args.draft.now) (draft_view c.push_node.new.draft) c.if-bounds-eq0.false
-    (λ at bounded lends makes. sym (c.may_resize.ensures at bounded lends makes) ∙ c.if-may_resize.false) h) c.push_node.ensures
+    (sym c.is_resized.ensures ∙ c.if-is_resized.false) h) c.push_node.ensures

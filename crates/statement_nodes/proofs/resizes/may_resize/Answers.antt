@@ -5,4 +5,4 @@ use Rattle.statement_nodes.proofs.resizes.may_resize.Goals as goal
 
 pub returns-in-ArrayOf : goal.returns-in-ArrayOf
 returns-in-ArrayOf c =
-    λ x bounded lends makes. resizes_array c.args.of c.in-ArrayOf.element (option_map declared_view c.args.written) x bounded lends makes c.are_elements.result c.in-ArrayOf.is (c.are_elements.ensures x bounded lends makes)
+    resizes_array c.args.of c.in-ArrayOf.element (option_map declared_view c.args.written) c.are_elements.result c.in-ArrayOf.is c.are_elements.ensures

@@ -7,7 +7,7 @@ pub set_reference-requires-clause-object : goal.set_reference-requires-clause-ob
 set_reference-requires-clause-object c = sym c.may_be_object.ensures ∙ c.if-may_be_object.true
 
 pub returns-then-may_be_object : goal.returns-then-may_be_object
-returns-then-may_be_object c = λ bounded lends makes. c.in_ok-set_reference.ensures c.args.set_word bounded lends makes
+returns-then-may_be_object c = λ bounds lends makes. c.in_ok-set_reference.ensures c.args.set_word bounds lends makes
 
 pub returns : goal.returns
 returns c =

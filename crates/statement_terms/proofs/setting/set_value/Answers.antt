@@ -1,12 +1,23 @@
 use Rattle.std.proofs.Common.{sym, ◌∙◌}
-use Rattle.std.proofs.lemmas.Result.{IfOk-weaker}
 use Rattle.statement_terms.proofs.setting.set_value.Goals as goal
+
+pub set_no_object-requires-clause-plain : goal.set_no_object-requires-clause-plain
+set_no_object-requires-clause-plain c = sym c.may_be_object.ensures ∙ c.if-not-may_be_object.true
+
+pub set_marked-requires-clause-object : goal.set_marked-requires-clause-object
+set_marked-requires-clause-object c = sym c.may_be_object.ensures ∙ c.if-not-may_be_object.false
 
 pub set_marked-requires-clause-marked : goal.set_marked-requires-clause-marked
 set_marked-requires-clause-marked c = sym c.is_marked.ensures ∙ c.if-is_marked.true
 
-pub set_constant-requires-clause-constant : goal.set_constant-requires-clause-constant
-set_constant-requires-clause-constant c = sym c.is_unassignable.ensures ∙ c.if-is_unassignable.true
+pub set_unset-requires-clause-object : goal.set_unset-requires-clause-object
+set_unset-requires-clause-object c = sym c.may_be_object.ensures ∙ c.if-not-may_be_object.false
+
+pub set_unset-requires-clause-other : goal.set_unset-requires-clause-other
+set_unset-requires-clause-other c = sym c.is_marked.ensures ∙ c.if-is_marked.false
+
+pub set_unset-requires-clause-unset : goal.set_unset-requires-clause-unset
+set_unset-requires-clause-unset c = sym c.is_unset.ensures ∙ c.if-is_unset.true
 
 pub returns-then-is_marked : goal.returns-then-is_marked
-returns-then-is_marked c = IfOk-weaker c.set_marked.result _ _ (λ k h. h c.args.place) c.set_marked.ensures
+returns-then-is_marked c = c.in_ok-set_marked.ensures c.args.place

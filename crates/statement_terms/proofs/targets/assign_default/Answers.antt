@@ -13,7 +13,7 @@ returns-in-Type c =
     let of = c.args.at.of in
     let K : NodeKind → Type 0 = λ (k : NodeKind). WrittenIs all (record { kind = k; of = of }) c.in-Some.found in
     let F : Known → Type 0 = λ (f : Known). WrittenIs all (record { kind = read_kind c.args.makes; of = of }) f in
-    IfOk-weaker c.assign_through.result _ _ (λ k h bounded lends may. h all c.in-Type._of bounded lends may (subst F c.in-Type.is (subst K c.read_kind.ensures c.in-Some.ensures))) c.assign_through.ensures
+    IfOk-weaker c.assign_through.result _ _ (λ k h bounds lends may. h all c.in-Type._of bounds lends may (subst F c.in-Type.is (subst K c.read_kind.ensures c.in-Some.ensures))) c.assign_through.ensures
 
 pub returns-in_ok-broken-in-Breaks : goal.returns-in_ok-broken-in-Breaks
 returns-in_ok-broken-in-Breaks c =
@@ -21,4 +21,4 @@ returns-in_ok-broken-in-Breaks c =
     let of = c.args.at.of in
     let K : NodeKind → Type 0 = λ (k : NodeKind). WrittenIs all (record { kind = k; of = of }) c.in-Some.found in
     let F : Known → Type 0 = λ (f : Known). WrittenIs all (record { kind = read_kind c.args.makes; of = of }) f in
-    λ bounded lends may. c.in_ok-broken-in-Breaks.ensures all c.args.has_class bounded lends may (subst F c.in-Breaks.is (subst K c.read_kind.ensures c.in-Some.ensures))
+    λ bounds lends may. c.in_ok-broken-in-Breaks.ensures all c.args.has_class bounds lends may (subst F c.in-Breaks.is (subst K c.read_kind.ensures c.in-Some.ensures))

@@ -17,7 +17,7 @@ returns-in-Place c =
     let e = draft_view c.assign_place.new.draft in
     IfOk-weaker c.assign_place.result _ (λ k. (may : Option Bool) → AssignsIndexed (declarations_view c.args.declared.now) c.args.has_class may place c.args.term d e k)
     (λ k h may. let A : Term → Type 0 = λ t. AssignsIndexed (declarations_view c.args.declared.now) c.args.has_class may place t d e k in
-    subst A (sym i.is) (term_indexed (declarations_view c.args.declared.now) c.args.has_class may place (term.Place i.kind i.of i.is_bounded i.lends i.makes) d e k (h i.is_bounded i.lends may))) c.assign_place.ensures
+    subst A (sym i.is) (term_indexed (declarations_view c.args.declared.now) c.args.has_class may place (term.Place i.kind i.of i.bounds i.lends i.makes) d e k (h i.bounds i.lends may))) c.assign_place.ensures
 
 pub returns-in-Value : goal.returns-in-Value
 returns-in-Value c =

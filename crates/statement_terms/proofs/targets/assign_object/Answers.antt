@@ -1,4 +1,4 @@
-use Rattle.std.proofs.Common.{Bool, Option, false, ap, sym, subst, ◌∙◌}
+use Rattle.std.proofs.Common.{ℕ, Bool, Option, false, ap, sym, subst, ◌∙◌}
 use Rattle.bound_project.specs.DraftView.{draft_view}
 use Rattle.bound_project.specs.Drafts.{NodeNamed}
 use Rattle.bound_project.specs.Pieces.{put}
@@ -30,8 +30,8 @@ returns c =
     let e = draft_view c.push_node-2.new.draft in
     let at = c.args.at in
     let makes = c.args.makes in
-    let P : ActionKind → Type 0 = λ (k : ActionKind). (all : project.Declarations) (u : DeclaredType) (has bounded lends : Bool) (may : Option Bool) → WrittenIs all (record { kind = read_kind makes; of = at.of }) (known_of.Type u)
-    → IsInstance has d.tables (record { kind = read_kind makes; of = at.of }) c.args.through → AssignsIn all has may c.args.place (term.Place at.kind at.of bounded lends makes) d e k false in
+    let P : ActionKind → Type 0 = λ (k : ActionKind). (all : project.Declarations) (u : DeclaredType) (has : Bool) (bounds : ℕ) (lends : Bool) (may : Option Bool) → WrittenIs all (record { kind = read_kind makes; of = at.of }) (known_of.Type u)
+    → IsInstance has d.tables (record { kind = read_kind makes; of = at.of }) c.args.through → AssignsIn all has may c.args.place (term.Place at.kind at.of bounds lends makes) d e k false in
     subst P (sym c.default_kind.ensures)
     (object_assigned c.args.place at makes c.args.through d f e c.requires.object c.in_ok-push_node.ensures
     (c.in_ok-push_node-2.ensures ∙ ap (λ k. record f { pieces = put f.tables (node_of k c.args.place at.of) f.pieces }) c.read_kind.ensures))

@@ -10,5 +10,5 @@ returns-then-not-is_object c =
     let at = c.args.at in
     let d = draft_view c.args.draft.now in
     let e = draft_view c.assign_plain.new.draft in
-    λ bounded lends may. term_in (declarations_view c.args.declared.now) c.args.has_class may c.args.place (term.Place at.kind at.of bounded lends c.args.makes) d e c.in_ok-plain.plain false
-    (c.in_ok-plain.ensures c.args.has_class bounded lends c.args.makes may)
+    λ bounds lends may. term_in (declarations_view c.args.declared.now) c.args.has_class may c.args.place (term.Place at.kind at.of bounds lends c.args.makes) d e c.in_ok-plain.plain false
+    (c.in_ok-plain.ensures c.args.has_class bounds lends c.args.makes may)

@@ -10,4 +10,4 @@ returns c =
     let t = (draft_view c.args.draft.now).tables in
     let of = c.args.at.of in
     let N : NodeKind → Type 0 = λ (k : NodeKind). IsInstance has t (record { kind = k; of = of }) c.in-Some.through in
-    λ all u bounded lends may written. c.in_ok-done.ensures all u has bounded lends may written (subst N c.read_kind.ensures c.in-Some.ensures)
+    λ all u bounds lends may written. c.in_ok-done.ensures all u has bounds lends may written (subst N c.read_kind.ensures c.in-Some.ensures)

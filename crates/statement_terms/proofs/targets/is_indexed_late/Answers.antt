@@ -11,7 +11,7 @@ returns-in-Place c =
     let i = c.in-Place in
     let t = (draft_view c.args.draft.now).tables in
     let P : Term → Type 0 = λ (x : Term). IfSome c.is_led_late.result (λ b. IndexedLate c.args.has_class t x b) in
-    subst P (sym i.is) (place_late c.args.has_class t i.kind c.read_kind.result i.of i.is_bounded i.lends i.makes c.is_led_late.result c.read_kind.ensures c.is_led_late.ensures)
+    subst P (sym i.is) (place_late c.args.has_class t i.kind c.read_kind.result i.of i.bounds i.lends i.makes c.is_led_late.result c.read_kind.ensures c.is_led_late.ensures)
 
 pub returns-in-Value : goal.returns-in-Value
 returns-in-Value c =

@@ -1,5 +1,0 @@
-use Rattle.std.proofs.Common.{length}
-use Rattle.run_defaults.proofs.parameters.+last_type.Given as goal
-
-abbrev pub decreases-last_type : goal.decreases-last_type
-decreases-last_type l = length l.parameters.now
