@@ -1,5 +1,5 @@
 -- Effects on arrays, blocks and For Each.
-use Rattle.std.proofs.Common.{◌≡◌, ℕ, suc, ◌+◌, ◌<◌, Bool, true, false, List, [], ◌∷◌, length, Option, Some, None, Result, Ok, Err, refl, sym, ap, ◌∙◌, subst, arith}
+use Rattle.std.proofs.Common.{◌≡◌, ℕ, suc, ◌+◌, ◌<◌, Bool, true, false, List, [], ◌∷◌, ◌++◌, length, Option, Some, None, Result, Ok, Err, refl, sym, ap, ◌∙◌, subst, arith}
 use Rattle.std.specs.Prelude.{slice_get, nat_lt, ◌*◌, ◌/◌, ◌%◌, if◌then◌else◌}
 use Rattle.vba_values.specs.declared.fault.Bad.{Bad}
 use Rattle.vba_values.specs.declared.fault.Bad.TheVariants.{Raise, Outside}
@@ -26,14 +26,14 @@ use Rattle.vba_meaning.specs.Arrays.{numbers, offset_at, indexed_object, element
 use Rattle.object_counts.proofs.Stored.{in_value}
 use Rattle.object_counts.proofs.Looks.{over_grows, still_walking, walking_grows, IsThere, exchanged_grows}
 use Rattle.object_lives.proofs.Values.{In, none_in, in_self, in_back, Refers, filled_in, resized_in, initial_in, item_in}
-use Rattle.object_lives.proofs.Held.{bare_wider, RootIn, root_more}
+use Rattle.object_lives.proofs.Held.{World, StaysIn, stays_in, bare_wider, RootIn, Paths, root_more, paths_more}
 use Rattle.object_lives.proofs.Marks.{unmarked}
-use Rattle.object_lives.proofs.Near.{AllThere, none_there, Ready, near_ready, Later, later_same, reach, own_floor, like_same, BareFound, bare_first, bare_rest, bare_put, bare_without, bare_found, held_there, there_written, old_written, bare_written, marked_written, top_written, called_written, me_written, below_written}
-use Rattle.object_lives.proofs.Chains.{Any, Given, GivenPath, still, still_path, Safe, fine, fine_in, done_in, bad, out, giving, behind, then_next, then_safe, both, answered_any}
+use Rattle.object_lives.proofs.Near.{AllThere, none_there, Ready, near_ready, Later, later_same, low, roots_of, reach, own_floor, like_same, BareFound, block_reach, Stays, bare_first, bare_rest, bare_put, bare_without, bare_found, held_there, there_written, old_written, bare_written, marked_written, top_written, called_written, me_written, pending_written, below_written}
+use Rattle.object_lives.proofs.Chains.{Any, Given, GivenPath, Staying, LeadsOn, still, still_path, Safe, fine, fine_in, done_in, bad, out, giving, behind, then_next, then_safe, both, answered_any}
 use Rattle.object_lives.proofs.Variables.{ThereIn, part_within, variable_there, kept_there, top_later, fitted_by, read_value_safe, keeping_later, replaceable_safe, assignable_safe, stored_there_safe, path_of_in}
 
 -- what is inside of a value that is held
-part_there : (m : Memory) (v : Val) (x : Option Val) (f : Val → Option Val) → ((w : Val) → f v ≡ Some w → (o : ℕ) → 0 < in_value o w → 0 < in_value o v) → f v ≡ x → Ready m → Refers (top m).held v → ThereIn m x
+part_there : {asks : Bool} (m : Memory) (v : Val) (x : Option Val) (f : Val → Option Val) → ((w : Val) → f v ≡ Some w → (o : ℕ) → 0 < in_value o w → 0 < in_value o v) → f v ≡ x → Ready asks m → Refers (top m).held v → ThereIn m x
 part_there m v None f k e r h = tt
 part_there m v (Some w) f k e r h = λ o lt. held_there r h o (k w e o lt)
 
@@ -49,7 +49,7 @@ item_inside o v steps lt = by_value (path_value v (plain_steps steps)) refl lt w
   by_value (Some w) e h = omega (arith, part_within o v (plain_steps steps) w e, h)
 
 -- an item of what is walked is there
-pub field_there : (n k : ℕ) (m : Memory) (x : Option Val) → slice_get (object_at m n).fields k ≡ x → Ready m → ThereIn m x
+pub field_there : {asks : Bool} (n k : ℕ) (m : Memory) (x : Option Val) → slice_get (object_at m n).fields k ≡ x → Ready asks m → ThereIn m x
 field_there n k m None e r = tt
 field_there n k m (Some w) e r =
     variable_there m (record { root = in_fields n k; steps = []; of = type.variant; bounded = false; makes = None }) w r tt (ap (λ x. inner_or_none x []) e)
@@ -62,13 +62,13 @@ none_of : (b : Bool) (v : Val) (m : Memory) → objects_in v ≡ [] → ThereIn 
 none_of true v m e = λ o lt. absurd (omega (arith, ap (times o) e, lt))
 none_of false v m e = tt
 
-item_there : (v : Val) (k : ℕ) (m : Memory) → Ready m → AllThere m.objects (objects_in v) → ThereIn m (item_of v k m)
+item_there : {asks : Bool} (v : Val) (k : ℕ) (m : Memory) → Ready asks m → AllThere m.objects (objects_in v) → ThereIn m (item_of v k m)
 item_there (object (Host host.Sheets)) k m r h = none_of (nat_lt k (length m.book)) (object (Host (host.Sheet (suc k)))) m refl
 item_there (object (Host (host.Area s t l rows c))) k m r h = none_of (nat_lt k (rows * c)) (range_value (area_in s (t + k / c) (l + k % c) 1 1)) m refl
 item_there (object (Heap id)) k m r h = field_there id.0 k m (slice_get (object_at m id.0).fields k) refl r
 item_there v k m r h = element_there v k m (path_value v (Element k ∷ [])) refl h
 
-module _ (Sure : Type 0) where
+module _ (Sure : World) where
   -- ---- elements and fields
 
   pub numbers_safe : (vs : List Val) (m : Memory) → Safe Sure Any m (numbers vs m)
@@ -84,19 +84,19 @@ module _ (Sure : Type 0) where
   indexed_object_safe (Host host.ErrObject) m = bad 450 m
   indexed_object_safe o m = bad 438 m
 
-  pub element_in_safe : (p : Path) (x : Option Val) (vs : List Val) (m : Memory) → (Sure → GivenPath m p) → Safe Sure GivenPath m (element_in p x vs m)
+  pub element_in_safe : (p : Path) (x : Option Val) (vs : List Val) (m : Memory) → (Sure.sure → GivenPath Sure.asks m p) → Safe Sure (LeadsOn Sure.asks p) m (element_in p x vs m)
   element_in_safe p None vs m h = then_next (numbers_safe vs m) (λ zs m1 n1 q1. bad 9 m1)
-  element_in_safe p (Some (array bounds of items)) vs m h = then_next (offset_safe bounds vs m) (λ k m1 n1 q1. fine (still_path n1 p h))
+  element_in_safe p (Some (array bounds of items)) vs m h = then_next (offset_safe bounds vs m) (λ k m1 n1 q1. fine (λ s. (still_path n1 p h s, λ g. g)))
   element_in_safe p (Some (object o)) vs m h = indexed_object_safe o m
   element_in_safe p (Some v) vs m h = bad 450 m
 
-  pub indexed_safe : (v : Val) (vs : List Val) (m : Memory) → (Sure → Ready m) → (Sure → Given m v) → Safe Sure Given m (indexed v vs m)
+  pub indexed_safe : (v : Val) (vs : List Val) (m : Memory) → (Sure.sure → Ready Sure.asks m) → (Sure.sure → Given m v) → Safe Sure Given m (indexed v vs m)
   indexed_safe (array bounds of items) vs m r h =
       then_safe r (offset_safe bounds vs m) (λ k m1 r1 n1 q1. read_value_safe Sure (Some (item_at items k)) m1 (λ s. held_there (r1 s) (item_in items k (still n1 (array bounds of items) h s))))
   indexed_safe (object o) vs m r h = indexed_object_safe o m
   indexed_safe v vs m r h = bad 450 m
 
-  pub part_of_safe : (i : ℕ) (v : Val) (m : Memory) → (Sure → Ready m) → (Sure → Given m v) → Safe Sure Given m (part_of i v m)
+  pub part_of_safe : (i : ℕ) (v : Val) (m : Memory) → (Sure.sure → Ready Sure.asks m) → (Sure.sure → Given m v) → Safe Sure Given m (part_of i v m)
   part_of_safe i v m r h =
       read_value_safe Sure (path_value v (Field i ∷ [])) m (λ s. part_there m v (path_value v (Field i ∷ [])) (λ w. path_value w (Field i ∷ []))
       (λ w e o lt. omega (arith, part_within o v (Field i ∷ []) w e, lt)) refl (r s) (h s))
@@ -137,7 +137,7 @@ module _ (Sure : Type 0) where
       (then_next (element_type_safe p.of t m) (λ of m1 n1 e1. fine (λ s. (e1 s, filled_in shape of (initial (types_of d) of) (initial_in (objects_in old) (types_of d) of)))))
 
   -- a value is stored, and what stood there waits
-  exchanged_later : (p : Path) (old w : Val) (m : Memory) → (Sure → GivenPath m p) → (Sure → IsThere m p old) → (Sure → AllThere m.objects (objects_in w)) → Later Sure m [] (waits (objects_in old) (with_value m p w))
+  exchanged_later : (p : Path) (old w : Val) (m : Memory) → (Sure.sure → GivenPath Sure.asks m p) → (Sure.sure → IsThere m p old) → (Sure.sure → AllThere m.objects (objects_in w)) → Later Sure m [] (waits (objects_in old) (with_value m p w))
   exchanged_later p old w m i there h = record {
     marks = marked_written m p w;
     near = λ s. record {
@@ -146,21 +146,22 @@ module _ (Sure : Type 0) where
       came_there = λ o lt. there_written m p w o (h s o lt);
       there = λ o k. there_written m p w o k;
       fresh = λ o k n. absurd (n (old_written m p w o k));
-      held = record { at = λ o lt. omega (arith, ap (times o) (top_written m p w (i s)), lt) };
-      called = called_written m p w (i s);
-      me = me_written m p w (i s);
-      below = below_written m p w (i s);
-      bare = λ g. bare_written m p w g;
+      held = record { at = λ o lt. omega (arith, ap (times o) (top_written Sure.asks m p w (i s)), lt) };
+      called = called_written Sure.asks m p w (i s);
+      me = me_written Sure.asks m p w (i s);
+      below = below_written Sure.asks m p w (i s);
+      bare = λ g. bare_written Sure.asks m p w g;
+      lent = λ a g. subst (λ qs. Paths (reach Sure.asks (with_value m p w)) qs) (pending_written Sure.asks m p w (i s)) (paths_more a (top m).pending g);
     };
   }
 
-  pub redimmed_safe : (d : Declarations) (preserve : Bool) (t : Option Declared) (p : Path) (vs : List Val) (m : Memory) → (Sure → Ready m) → (Sure → GivenPath m p) → Safe Sure Any m (redimmed d preserve t p vs m)
+  pub redimmed_safe : (d : Declarations) (preserve : Bool) (t : Option Declared) (p : Path) (vs : List Val) (m : Memory) → (Sure.sure → Ready Sure.asks m) → (Sure.sure → GivenPath Sure.asks m p) → Safe Sure Any m (redimmed d preserve t p vs m)
   redimmed_safe d preserve t p vs m r i =
       then_safe r (numbers_safe vs m) (λ zs m1 r1 n1 q1.
       then_safe r1 (assignable_safe Sure p m1) (λ old m2 r2 n2 there.
       then_safe r2 (answered_here (shape_of (bounds_of zs)) m2) (λ shape m3 r3 n3 e3.
       then_safe r3 (redim_value_safe d preserve t shape p old m3) (λ v m4 r4 n4 q4.
-      (let is : Sure → IsThere m4 p old = λ s. still_there (q4 s).0 (still_there (e3 s) (there s)) in
+      (let is : Sure.sure → IsThere m4 p old = λ s. still_there (q4 s).0 (still_there (e3 s) (there s)) in
       fine_in (exchanged_later p old v m4 (still_path n4 p (still_path n3 p (still_path n2 p (still_path n1 p i)))) is (λ s o lt. variable_there m4 p old (r4 s) (is s).variable (is s).here o ((q4 s).1.at o lt))) (λ s. tt))))))
 
   -- an array without elements, or with new ones
@@ -173,7 +174,7 @@ module _ (Sure : Type 0) where
   erased_value_safe d bounded (Some (array bounds of items)) m = fine (λ s. emptied_in d bounded bounds of)
   erased_value_safe d bounded (Some v) m = bad 13 m
 
-  pub erased_safe : (d : Declarations) (p : Path) (m : Memory) → (Sure → GivenPath m p) → Safe Sure Any m (erased d p m)
+  pub erased_safe : (d : Declarations) (p : Path) (m : Memory) → (Sure.sure → GivenPath Sure.asks m p) → Safe Sure Any m (erased d p m)
   erased_safe d p m i =
       then_next (erased_value_safe d p.bounded (value_at m p) m) (λ v m1 n1 q1.
       then_next (replaceable_safe Sure p m1) (λ old m2 n2 there.
@@ -182,17 +183,17 @@ module _ (Sure : Type 0) where
   -- ---- With
 
   kept_from : (i : ℕ) (root : Root) (steps : List Step) (of : Declared) (bounded : Bool) (makes : Option ℕ) (m : Memory)
-      → let p : Path = record { root = root; steps = steps; of = of; bounded = bounded; makes = makes } in (Sure → Ready m) → (Sure → RootIn (reach m) root) → Safe Sure Any m (keep_path i p m)
-  kept_from i (in_item v) steps of bounded makes m r h =
+      → let p : Path = record { root = root; steps = steps; of = of; bounded = bounded; makes = makes } in (Sure.sure → Ready Sure.asks m) → (Sure.sure → RootIn (reach Sure.asks m) root) → (Sure.sure → StaysIn (block_reach Sure.asks m) root) → Safe Sure Any m (keep_path i p m)
+  kept_from i (in_item v) steps of bounded makes m r h g =
       done_in (keeping_later Sure i (only (value_in_item v steps)) m (λ s o lt. held_there (r s) (h s) o (item_inside o v steps lt)) (λ s. tt))
-  kept_from i (in_object n) steps of bounded makes m r h = done_in (keeping_later Sure i (at_path _) m (λ s. none_there m.objects) h)
-  kept_from i (in_frame k x) steps of bounded makes m r h = done_in (keeping_later Sure i (at_path _) m (λ s. none_there m.objects) h)
-  kept_from i (in_project x) steps of bounded makes m r h = done_in (keeping_later Sure i (at_path _) m (λ s. none_there m.objects) (λ s. tt))
-  kept_from i (in_fields n f) steps of bounded makes m r h = done_in (keeping_later Sure i (at_path _) m (λ s. none_there m.objects) (λ s. tt))
-  kept_from i (in_block k j) steps of bounded makes m r h = done_in (keeping_later Sure i (at_path _) m (λ s. none_there m.objects) h)
+  kept_from i (in_object n) steps of bounded makes m r h g = done_in (keeping_later Sure i (at_path _) m (λ s. none_there m.objects) h)
+  kept_from i (in_frame k x) steps of bounded makes m r h g = done_in (keeping_later Sure i (at_path _) m (λ s. none_there m.objects) h)
+  kept_from i (in_project x) steps of bounded makes m r h g = done_in (keeping_later Sure i (at_path _) m (λ s. none_there m.objects) (λ s. tt))
+  kept_from i (in_fields n f) steps of bounded makes m r h g = done_in (keeping_later Sure i (at_path _) m (λ s. none_there m.objects) g)
+  kept_from i (in_block k j) steps of bounded makes m r h g = done_in (keeping_later Sure i (at_path _) m (λ s. none_there m.objects) h)
 
-  pub keep_path_safe : (i : ℕ) (p : Path) (m : Memory) → (Sure → Ready m) → (Sure → GivenPath m p) → Safe Sure Any m (keep_path i p m)
-  keep_path_safe i p m r h = kept_from i p.root p.steps p.of p.bounded p.makes m r h
+  pub keep_path_safe : (i : ℕ) (p : Path) (m : Memory) → (Sure.sure → Ready Sure.asks m) → (Sure.sure → GivenPath Sure.asks m p) → (Sure.sure → Stays Sure.asks m p) → Safe Sure Any m (keep_path i p m)
+  keep_path_safe i p m r h g = kept_from i p.root p.steps p.of p.bounded p.makes m r h g
 
   pub block_over_safe : (i : ℕ) (m : Memory) → Safe Sure Any m (block_over i m)
   block_over_safe i m = done_in (record {
@@ -206,19 +207,21 @@ module _ (Sure : Type 0) where
       held = in_back (objects_in (kept_at i m)) (top m).held;
       called = refl;
       me = refl;
-      below = like_same (reach m).floor (rest m.frames);
-      bare = λ g. (let f = bare_first m.frames g in ((f.0, bare_without (reach m).floor i (top m).keeps f.1), bare_rest m.frames g));
+      below = like_same (low m) (rest m.frames);
+      bare = λ g. (let f = bare_first Sure.asks m.frames g in ((f.0, bare_without (block_reach Sure.asks m) i (top m).keeps f.1, f.2), bare_rest Sure.asks m.frames g));
+      lent = λ a g. paths_more a (top m).pending g;
     };
   })
 
-  place_kept_safe : (i : ℕ) (x : Option Kept) (m : Memory) → (Sure → BareFound (reach m).floor x) → Safe Sure GivenPath m (place_kept i x m)
+  place_kept_safe : (i : ℕ) (x : Option Kept) (m : Memory) → (Sure.sure → BareFound (block_reach Sure.asks m) x) → Safe Sure (Staying Sure.asks) m (place_kept i x m)
   place_kept_safe i None m b = bad 91 m
-  place_kept_safe i (Some (only v)) m b = fine (λ s. own_floor m)
-  place_kept_safe i (Some (at_path p)) m b = fine (λ s. root_more (bare_wider (reach m)) p.root (b s))
+  place_kept_safe i (Some (only v)) m b = fine (λ s. (own_floor m, tt))
+  place_kept_safe i (Some (at_path p)) m b =
+      fine (λ s. (root_more (bare_wider (objects_in (top m).me ++ roots_of (rest m.frames)) (reach Sure.asks m) (in_back (top m).held (objects_in (top m).me ++ roots_of (rest m.frames)))) p.root (b s), stays_in (block_reach Sure.asks m) p.root (b s)))
   place_kept_safe i (Some (walk begun v k)) m b = bad 91 m
 
-  pub dot_at_safe : (i : ℕ) (m : Memory) → (Sure → Ready m) → Safe Sure GivenPath m (dot_at i m)
-  dot_at_safe i m r = place_kept_safe i (found (top m).keeps i) m (λ s. bare_found (reach m).floor i (top m).keeps (bare_first m.frames (r s).bare).1)
+  pub dot_at_safe : (i : ℕ) (m : Memory) → (Sure.sure → Ready Sure.asks m) → Safe Sure (Staying Sure.asks) m (dot_at i m)
+  dot_at_safe i m r = place_kept_safe i (found (top m).keeps i) m (λ s. bare_found (block_reach Sure.asks m) i (top m).keeps (bare_first Sure.asks m.frames (r s).bare).1)
 
   -- ---- For Each
 
@@ -226,7 +229,7 @@ module _ (Sure : Type 0) where
   walking_on : (i : ℕ) (begun b : Bool) (v : Val) (n k : ℕ) (m : Memory) → found (top m).keeps i ≡ Some (walk b v n) → Later Sure m [] (walking i begun v k m)
   walking_on i begun b v n k m e =
       top_later Sure m (record (top m) { keeps = put i (walk begun v k) (top m).keeps }) [] (still_walking i begun b v n k m e) (λ s. none_there m.objects) (in_self (top m).held)
-      (λ f. (f.0, bare_put (reach m).floor i (walk begun v k) (top m).keeps tt f.1)) refl refl
+      (λ s f. (f.0, bare_put (block_reach Sure.asks m) i (walk begun v k) (top m).keeps tt f.1, f.2)) refl refl (λ s a g. paths_more a (top m).pending g)
 
   not_walking_later : (i : ℕ) (x : Option Kept) (m : Memory) → found (top m).keeps i ≡ x → Later Sure m [] (not_walking i x m)
   not_walking_later i None m e = later_same m
@@ -246,7 +249,7 @@ module _ (Sure : Type 0) where
   walkable_safe (object o) m = bad 438 m
   walkable_safe v m = bad 13 m
 
-  pub each_begun_safe : (i : ℕ) (v : Val) (m : Memory) → (Sure → Ready m) → (Sure → Given m v) → Safe Sure Any m (each_begun i v m)
+  pub each_begun_safe : (i : ℕ) (v : Val) (m : Memory) → (Sure.sure → Ready Sure.asks m) → (Sure.sure → Given m v) → Safe Sure Any m (each_begun i v m)
   each_begun_safe i v m r h =
       then_safe r (walkable_safe v m) (λ u m1 r1 n1 q1. fine_in (record {
         marks = unmarked m1.objects;
@@ -259,26 +262,27 @@ module _ (Sure : Type 0) where
           held = in_self (top m1).held;
           called = refl;
           me = refl;
-          below = like_same (reach m1).floor (rest m1.frames);
-          bare = λ g. (let f = bare_first m1.frames g in ((f.0, bare_put (reach m1).floor i (walk true v 0) (top m1).keeps tt f.1), bare_rest m1.frames g));
+          below = like_same (low m1) (rest m1.frames);
+          bare = λ g. (let f = bare_first Sure.asks m1.frames g in ((f.0, bare_put (block_reach Sure.asks m1) i (walk true v 0) (top m1).keeps tt f.1, f.2), bare_rest Sure.asks m1.frames g));
+          lent = λ a g. paths_more a (top m1).pending g;
         };
       }) (λ s. tt))
 
-  item_stored_safe : (x : Variable) (w : Val) (m : Memory) → (Sure → Ready m) → (Sure → AllThere m.objects (objects_in w)) → Safe Sure Any m (item_stored x w m)
+  item_stored_safe : (x : Variable) (w : Val) (m : Memory) → (Sure.sure → Ready Sure.asks m) → (Sure.sure → AllThere m.objects (objects_in w)) → Safe Sure Any m (item_stored x w m)
   item_stored_safe x w m r h =
       then_next {Q = λ m1 u. Refers (objects_in w) u} (fitted_by Sure (path_of m x).of w m (λ u s i. i)) (λ u m1 n1 q1.
       stored_there_safe Sure (path_of m1 x) u m1 (path_of_in Sure m1 x (λ s. near_ready (n1 s) (r s))) (λ s o lt. (n1 s).there o (h s o ((q1 s).at o lt))))
 
-  next_item_safe : (x : Variable) (i : ℕ) (v : Val) (k : ℕ) (y : Option Val) (m : Memory) → found (top m).keeps i ≡ Some (walk true v k) → (Sure → Ready m) → (Sure → ThereIn m y) → Safe Sure Any m (next_item x i v k y m)
+  next_item_safe : (x : Variable) (i : ℕ) (v : Val) (k : ℕ) (y : Option Val) (m : Memory) → found (top m).keeps i ≡ Some (walk true v k) → (Sure.sure → Ready Sure.asks m) → (Sure.sure → ThereIn m y) → Safe Sure Any m (next_item x i v k y m)
   next_item_safe x i v k None m e r h = then_next {f = λ u m1. Fine false m1} (block_over_safe i m) (λ u m1 n1 q1. fine {v = false} (λ s. tt {0}))
   next_item_safe x i v k (Some w) m e r h =
       let l = walking_on i true true v k (suc k) m e in
       behind l (then_next (item_stored_safe x w (walking i true v (suc k) m) (λ s. near_ready (l.near s) (r s)) h) (λ u m2 n2 q2. fine (λ s. tt)))
 
-  each_by_safe : (x : Variable) (i : ℕ) (y : Option Kept) (m : Memory) → found (top m).keeps i ≡ y → (Sure → Ready m) → Safe Sure Any m (each_by x i y m)
+  each_by_safe : (x : Variable) (i : ℕ) (y : Option Kept) (m : Memory) → found (top m).keeps i ≡ y → (Sure.sure → Ready Sure.asks m) → Safe Sure Any m (each_by x i y m)
   each_by_safe x i (Some (walk true v k)) m e r =
       next_item_safe x i v k (item_of v k m) m e r (λ s. item_there v k m (r s) (subst (λ w. AllThere m.objects (objects_in w)) (ap (λ y. kept_value (kept_or y)) e) (kept_there i m (r s))))
   each_by_safe x i other m e r = bad 92 m
 
-  pub each_next_safe : (x : Variable) (i : ℕ) (m : Memory) → (Sure → Ready m) → Safe Sure Any m (each_next x i m)
+  pub each_next_safe : (x : Variable) (i : ℕ) (m : Memory) → (Sure.sure → Ready Sure.asks m) → Safe Sure Any m (each_next x i m)
   each_next_safe x i m r = each_by_safe x i (found (top m).keeps i) m refl r

@@ -1,30 +1,60 @@
 -- What operands refer to is held by the statement that evaluates them.
-use Rattle.std.proofs.Common.{◌≡◌, ℕ, zero, suc, ◌≤◌, List, [], ◌∷◌, ◌++◌, map, arith}
+use Rattle.std.proofs.Common.{◌≡◌, ℕ, zero, suc, ◌<◌, ◌≤◌, Bool, true, false, refl, List, [], ◌∷◌, ◌++◌, map, arith}
 use Rattle.std.specs.Prelude.{slice_index_or, take, drop}
 use Rattle.vba_values.specs.Val.{Val, missing}
 use Rattle.vba_meaning.specs.Paths.{Root, in_frame, in_project, in_fields, in_block, in_object, in_item, Path}
-use Rattle.vba_meaning.specs.Memory.{Slot, value, path}
-use Rattle.vba_meaning.specs.References.{objects_in, objects_in_values, objects_of_reference}
+use Rattle.vba_meaning.specs.Memory.{Slot, value, path, rest}
+use Rattle.vba_meaning.specs.References.{objects_in, objects_in_values, objects_of_reference, times}
 use Rattle.vba_meaning.specs.Effects.{slot_value, slot_values, packed, reordered}
 use Rattle.vba_meaning.specs.Defaults.{Spot, in_variable, by_let, in_range, in_member, Task, as_operand, no_object, give_way, walked, fit_to, index_by, write, let_item, set_item, put_in, read_made, Next, gives, then_call}
+use Rattle.object_lives.proofs.Firmness.{flag}
 use Rattle.object_lives.proofs.Values.{In, none_in, in_then, in_both, Refers, vals_in}
+
+-- what is known of a run: what is taken for sure of its code, whether paths are asked to lead to variables of objects that
+-- are there, and for each address which operands stay as long as their frame
+pub record World : Type 1 where
+  pub sure : Type 0
+  pub asks : Bool
+  pub firm : ℕ → List Bool
+
+abbrev pub Asked : Bool → Type 0 → Type 0
+Asked true X = X
+Asked false X = Unit {0}
+
+pub asked : {X : Type 0} (b : Bool) → X → Asked b X
+asked true x = x
+asked false x = tt
+
+pub asked_more : {X Y : Type 0} (b c : Bool) → c ≡ b → (X → Y) → Asked b X → Asked c Y
+asked_more true true e f h = f h
+asked_more b false e f h = tt
+asked_more false true e f h = absurd cc
 
 -- what a frame refers to and leads to: the objects that it holds, and frames from one on, by their numbers
 pub record Reach : Type 0 where
+  -- whether paths are asked to lead to the roots alone
+  pub asks : Bool
   pub held : List ℕ
+  -- the objects to whose variables paths may lead
+  pub roots : List ℕ
   pub floor : ℕ
 
--- no object
+-- what refers to no object itself
+abbrev pub under : Bool → List ℕ → ℕ → Reach
+under b os l = record { asks = b; held = []; roots = os; floor = l }
+
 abbrev pub bare_from : ℕ → Reach
-bare_from l = record { held = []; floor = l }
+bare_from l = under false [] l
 
 -- more is held
 pub record Wider (hs ks : Reach) : Type 0 where
+  pub asks : ks.asks ≡ hs.asks
   pub held : In hs.held ks.held
+  pub roots : In hs.roots ks.roots
   pub floor : ks.floor ≤ hs.floor
 
-pub bare_wider : (ks : Reach) → Wider (bare_from ks.floor) ks
-bare_wider ks = record { held = none_in ks.held; floor = omega arith }
+pub bare_wider : (os : List ℕ) (ks : Reach) → In os ks.roots → Wider (under ks.asks os ks.floor) ks
+bare_wider os ks i = record { asks = refl; held = none_in ks.held; roots = i; floor = omega arith }
 
 -- ---- values, places, arguments
 
@@ -32,16 +62,44 @@ abbrev pub Values : List ℕ → List Val → Type 0
 Values hs [] = Unit {0}
 Values hs (v ∷ vs) = Refers hs v × Values hs vs
 
--- a path refers to the item of a Collection that it begins with; no other object that an index gave is counted
+-- a path refers to the item of a Collection that it begins with; no other object that an index gave is counted. An object
+-- to whose variable it leads is one of the roots
 abbrev pub RootIn : Reach → Root → Type 0
 RootIn hs (in_frame k x) = hs.floor ≤ k
 RootIn hs (in_block k i) = hs.floor ≤ k
 RootIn hs (in_object o) = objects_of_reference o ≡ []
 RootIn hs (in_item v) = Refers hs.held v
+RootIn hs (in_fields o i) = Asked hs.asks (0 < times o hs.roots)
 RootIn hs root = Unit {0}
 
 abbrev pub PathIn : Reach → Path → Type 0
 PathIn hs q = RootIn hs q.root
+
+abbrev pub Paths : Reach → List Path → Type 0
+Paths hs [] = Unit {0}
+Paths hs (q ∷ qs) = PathIn hs q × Paths hs qs
+
+-- a path leads to variables of these objects alone, whatever else it refers to
+abbrev pub StaysIn : Reach → Root → Type 0
+StaysIn hs (in_fields o i) = Asked hs.asks (0 < times o hs.roots)
+StaysIn hs root = Unit {0}
+
+pub stays_in : (hs : Reach) (r : Root) → RootIn hs r → StaysIn hs r
+stays_in hs (in_fields o i) h = h
+stays_in hs (in_frame k x) h = tt
+stays_in hs (in_project x) h = tt
+stays_in hs (in_block k i) h = tt
+stays_in hs (in_object o) h = tt
+stays_in hs (in_item v) h = tt
+
+-- of operands this is known where they are told to stay
+abbrev pub FirmBy : Bool → Reach → Slot → Type 0
+FirmBy true hs (path q) = StaysIn hs q.root
+FirmBy b hs x = Unit {0}
+
+abbrev pub Firm : Reach → List Bool → List Slot → Type 0
+Firm hs fl [] = Unit {0}
+Firm hs fl (x ∷ st) = FirmBy (flag fl) hs x × Firm hs (rest fl) st
 
 abbrev pub SlotIn : Reach → Slot → Type 0
 SlotIn hs (value v) = Refers hs.held v
@@ -89,7 +147,11 @@ module _ {hs ks : Reach} (i : Wider hs ks) where
   root_more (in_object o) h = h
   root_more (in_item v) h = in_then h i.held
   root_more (in_project x) h = tt
-  root_more (in_fields o f) h = tt
+  root_more (in_fields o f) h = asked_more hs.asks ks.asks i.asks (λ k. i.roots.at o k) h
+
+  pub paths_more : (qs : List Path) → Paths hs qs → Paths ks qs
+  paths_more [] h = tt
+  paths_more (q ∷ qs) h = (root_more q.root h.0, paths_more qs h.1)
 
   pub slot_more : (x : Slot) → SlotIn hs x → SlotIn ks x
   slot_more (value v) h = in_then h i.held

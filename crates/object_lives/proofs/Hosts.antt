@@ -43,10 +43,10 @@ use Rattle.vba_meaning.specs.ByName.{parameter_names, parameters_given, first_gi
 use Rattle.object_counts.proofs.Chains.{AllOf, one_of}
 use Rattle.object_counts.proofs.Variables.{alike}
 use Rattle.object_lives.proofs.Values.{none_in, own_time, Refers, free_refers, area_value_in, ranged_in}
-use Rattle.object_lives.proofs.Held.{Reach, RootIn, Values}
+use Rattle.object_lives.proofs.Held.{World, Reach, RootIn, StaysIn, Values}
 use Rattle.object_lives.proofs.Marks.{Silent}
-use Rattle.object_lives.proofs.Near.{Ready, Later, later_same, reach, held_there}
-use Rattle.object_lives.proofs.Chains.{Any, Given, GivenAll, GivenPath, still, still_all, still_path, Safe, fine, fine_in, done_in, bad, out, telling, then_next, then_safe, both, answered_safe, answered_any}
+use Rattle.object_lives.proofs.Near.{Ready, Later, later_same, reach, block_reach, held_there}
+use Rattle.object_lives.proofs.Chains.{Any, Given, GivenAll, GivenPath, LeadsOn, still, still_all, still_path, Safe, fine, fine_in, done_in, bad, out, telling, then_next, then_safe, both, answered_safe, answered_any}
 use Rattle.object_lives.proofs.Variables.{outside_later, plain_safe, plain_any, err_off_safe, assigned_safe}
 use Rattle.object_lives.proofs.Arrays.{indexed_safe, indexed_object_safe, element_in_safe}
 use Rattle.object_lives.proofs.Items.{GivenFirst, collection_member_safe, item_found_safe, collection_used_safe}
@@ -68,7 +68,13 @@ path_to_in hs (object (Heap id)) h = h
 path_to_in hs (object (Host x)) h = refl
 path_to_in hs v h = h
 
-module _ (Sure : Type 0) where
+pub path_to_stays : (hs : Reach) (w : Val) → StaysIn hs (path_to w).root
+path_to_stays hs (object Nothing) = tt
+path_to_stays hs (object (Heap id)) = tt
+path_to_stays hs (object (Host x)) = tt
+path_to_stays hs v = tt
+
+module _ (Sure : World) where
   -- a value that refers to nothing
   free : (v : Val) (m : Memory) → objects_in v ≡ [] → Safe Sure Given m (Fine v m)
   free v m e = fine (λ s. free_refers v e)
@@ -219,7 +225,7 @@ module _ (Sure : Type 0) where
   fits_in_safe [] k m = bad 450 m
   fits_in_safe (n ∷ ns) k m = both (n == k) (fine (λ s. tt)) (both (nat_lt k n) (bad 449 m) (fits_in_safe ns k m))
 
-  can_index_safe : (v : Val) (k : ℕ) (m : Memory) → (Sure → Given m v) → Safe Sure Given m (can_index v k m)
+  can_index_safe : (v : Val) (k : ℕ) (m : Memory) → (Sure.sure → Given m v) → Safe Sure Given m (can_index v k m)
   can_index_safe (array bounds of items) k m h = fine h
   can_index_safe (object (Host host.Sheets)) k m h = then_next (fits_in_safe (1 ∷ []) k m) (λ u m1 n1 q1. free (object (Host host.Sheets)) m1 refl)
   can_index_safe (object (Host (host.Area s t l r c))) k m h = then_next (fits_in_safe two k m) (λ u m1 n1 q1. free (object (Host (host.Area s t l r c))) m1 refl)
@@ -233,16 +239,16 @@ module _ (Sure : Type 0) where
   unindexed : (o : ObjRef) (vs : List Val) (m : Memory) → Safe Sure Given m (on_fine (plains vs m) (λ ws m1. indexed (object o) ws m1))
   unindexed o vs m = then_next (plains_safe vs m) (λ ws m1 n q. indexed_object_safe Sure o m1)
 
-  item_of_object : (o : ObjRef) (vs : List Val) (m : Memory) → (Sure → Ready m) → Safe Sure Given m (item_by (object o) vs m)
+  item_of_object : (o : ObjRef) (vs : List Val) (m : Memory) → (Sure.sure → Ready Sure.asks m) → Safe Sure Given m (item_by (object o) vs m)
   item_of_object (Host host.Sheets) vs m r = sheet_found_safe vs m
   item_of_object (Host (host.Area s t l rows c)) vs m r = cell_found_safe (area_in s t l rows c) vs m
   item_of_object (Heap id) vs m r = both (is_collection (Heap id) m) (item_found_safe Sure id.0 vs m r) (unindexed (Heap id) vs m)
   item_of_object o vs m r = unindexed o vs m
 
-  item_of_value : (v : Val) (vs : List Val) (m : Memory) → (Sure → Ready m) → (Sure → Given m v) → Safe Sure Given m (on_fine (plains vs m) (λ ws m1. indexed v ws m1))
+  item_of_value : (v : Val) (vs : List Val) (m : Memory) → (Sure.sure → Ready Sure.asks m) → (Sure.sure → Given m v) → Safe Sure Given m (on_fine (plains vs m) (λ ws m1. indexed v ws m1))
   item_of_value v vs m r h = then_safe r (plains_safe vs m) (λ ws m1 r1 n1 q1. indexed_safe Sure v ws m1 r1 (still n1 v h))
 
-  pub item_safe : (v : Val) (vs : List Val) (m : Memory) → (Sure → Ready m) → (Sure → Given m v) → Safe Sure Given m (item_by v vs m)
+  pub item_safe : (v : Val) (vs : List Val) (m : Memory) → (Sure.sure → Ready Sure.asks m) → (Sure.sure → Given m v) → Safe Sure Given m (item_by v vs m)
   item_safe (object o) vs m r h = item_of_object o vs m r
   item_safe v vs m r h = item_of_value v vs m r h
 
@@ -274,15 +280,15 @@ module _ (Sure : Type 0) where
       then_next (answered_any (member_of r name) m) (λ how m1 n q. named_begun_safe (parameter_names r (number_of how)) (takes r (number_of how)) by k m1)
   named_there_safe name by k v m = bad 424 m
 
-  member_by_safe : (d : Declarations) (x : HostRef) (how : HostMember) (vs : List Val) (begun : Val) (m : Memory) → (Sure → Ready m) → (Sure → Given m begun) → Safe Sure Given m (member_by d x how vs begun m)
+  member_by_safe : (d : Declarations) (x : HostRef) (how : HostMember) (vs : List Val) (begun : Val) (m : Memory) → (Sure.sure → Ready Sure.asks m) → (Sure.sure → Given m begun) → Safe Sure Given m (member_by d x how vs begun m)
   member_by_safe d x how vs begun m r h = both (are_places x how (length vs)) (item_safe begun vs m r h) (member_value_safe d x (number_of how) vs m)
 
-  pub member_called_safe : (d : Declarations) (name : List ℕ) (vs : List Val) (base begun : Val) (m : Memory) → (Sure → Ready m) → (Sure → Given m begun) → Safe Sure Given m (member_called d name vs base begun m)
+  pub member_called_safe : (d : Declarations) (name : List ℕ) (vs : List Val) (base begun : Val) (m : Memory) → (Sure.sure → Ready Sure.asks m) → (Sure.sure → Given m begun) → Safe Sure Given m (member_called d name vs base begun m)
   member_called_safe d name vs (object (Host x)) begun m r h = then_safe r (answered_any (member_of x name) m) (λ how m1 r1 n1 q1. member_by_safe d x how (as_given vs) begun m1 r1 (still n1 begun h))
   member_called_safe d name vs v begun m r h = bad 424 m
 
   -- of a counted object
-  pub object_member_safe : (name : List ℕ) (vs : List Val) (base : Val) (m : Memory) → (Sure → Ready m) → (Sure → Given m base) → (Sure → GivenAll m vs) → Safe Sure GivenFirst m (object_member name vs base m)
+  pub object_member_safe : (name : List ℕ) (vs : List Val) (base : Val) (m : Memory) → (Sure.sure → Ready Sure.asks m) → (Sure.sure → Given m base) → (Sure.sure → GivenAll m vs) → Safe Sure GivenFirst m (object_member name vs base m)
   object_member_safe name vs (object (Heap id)) m r h g =
       then_safe r (collection_member_safe Sure id.0 name m) (λ how m1 r1 n1 q1.
       collection_used_safe Sure id.0 how (as_given vs) m1 r1 (λ s. held_there (r1 s) (still n1 (object (Heap id)) h s) id.0 (own_time id.0)) (λ s. as_given_in (top m1).held vs (still_all n1 vs g s)))
@@ -306,15 +312,15 @@ module _ (Sure : Type 0) where
 
   -- ---- places that numbers lead to
 
-  place_by : (p : Path) (vs : List Val) (m : Memory) (x : Option Val) → value_at m p ≡ x → (Sure → Ready m) → (Sure → GivenPath m p) → Safe Sure GivenPath m (place_at p vs m)
-  place_by p vs m (Some (object o)) e r h = rw e (then_next (item_of_object o vs m r) (λ w m1 n1 q1. fine (λ s. path_to_in (reach m1) w (q1 s))))
+  place_by : (p : Path) (vs : List Val) (m : Memory) (x : Option Val) → value_at m p ≡ x → (Sure.sure → Ready Sure.asks m) → (Sure.sure → GivenPath Sure.asks m p) → Safe Sure (LeadsOn Sure.asks p) m (place_at p vs m)
+  place_by p vs m (Some (object o)) e r h = rw e (then_next (item_of_object o vs m r) (λ w m1 n1 q1. fine (λ s. (path_to_in (reach Sure.asks m1) w (q1 s), λ g. path_to_stays (block_reach Sure.asks m1) w))))
   place_by p vs m x e r h = rw e (element_in_safe Sure p (value_at m p) vs m h)
 
-  pub place_at_safe : (p : Path) (vs : List Val) (m : Memory) → (Sure → Ready m) → (Sure → GivenPath m p) → Safe Sure GivenPath m (place_at p vs m)
+  pub place_at_safe : (p : Path) (vs : List Val) (m : Memory) → (Sure.sure → Ready Sure.asks m) → (Sure.sure → GivenPath Sure.asks m p) → Safe Sure (LeadsOn Sure.asks p) m (place_at p vs m)
   place_at_safe p vs m r h = place_by p vs m (value_at m p) refl r h
 
   assigned_here : (root : Root) (steps : List Step) (of : Declared) (bounded : Bool) (makes : Option ℕ) (v : Val) (m : Memory)
-      → let p : Path = record { root = root; steps = steps; of = of; bounded = bounded; makes = makes } in (Sure → Ready m) → (Sure → GivenPath m p) → (Sure → Given m v) → Safe Sure Any m (on_fine (plain v m) (λ w m1. assigned p w m1))
+      → let p : Path = record { root = root; steps = steps; of = of; bounded = bounded; makes = makes } in (Sure.sure → Ready Sure.asks m) → (Sure.sure → GivenPath Sure.asks m p) → (Sure.sure → Given m v) → Safe Sure Any m (on_fine (plain v m) (λ w m1. assigned p w m1))
   assigned_here root steps of bounded makes v m r i h =
       let p : Path = record { root = root; steps = steps; of = of; bounded = bounded; makes = makes } in then_safe r (plain_safe Sure v m h) (λ w m1 r1 n1 q1. assigned_safe Sure p w m1 r1 (still_path n1 p i) q1)
 
@@ -323,7 +329,7 @@ module _ (Sure : Type 0) where
   item_written_safe w (t ∷ steps) v m = then_next (plain_any Sure v m) (λ x m1 n q. fine (λ s. tt))
 
   assigned_from : (root : Root) (steps : List Step) (of : Declared) (bounded : Bool) (makes : Option ℕ) (v : Val) (m : Memory)
-      → let p : Path = record { root = root; steps = steps; of = of; bounded = bounded; makes = makes } in (Sure → Ready m) → (Sure → GivenPath m p) → (Sure → Given m v) → Safe Sure Any m (assigned_at p v m)
+      → let p : Path = record { root = root; steps = steps; of = of; bounded = bounded; makes = makes } in (Sure.sure → Ready Sure.asks m) → (Sure.sure → GivenPath Sure.asks m p) → (Sure.sure → Given m v) → Safe Sure Any m (assigned_at p v m)
   assigned_from (in_object o) steps of bounded makes v m r i h = written_default_safe (object o) v m
   assigned_from (in_item w) steps of bounded makes v m r i h = item_written_safe w steps v m
   assigned_from (in_frame k x) steps of bounded makes v m r i h = assigned_here (in_frame k x) steps of bounded makes v m r i h
@@ -331,13 +337,13 @@ module _ (Sure : Type 0) where
   assigned_from (in_fields n f) steps of bounded makes v m r i h = assigned_here (in_fields n f) steps of bounded makes v m r i h
   assigned_from (in_block k j) steps of bounded makes v m r i h = assigned_here (in_block k j) steps of bounded makes v m r i h
 
-  pub assigned_at_safe : (p : Path) (v : Val) (m : Memory) → (Sure → Ready m) → (Sure → GivenPath m p) → (Sure → Given m v) → Safe Sure Any m (assigned_at p v m)
+  pub assigned_at_safe : (p : Path) (v : Val) (m : Memory) → (Sure.sure → Ready Sure.asks m) → (Sure.sure → GivenPath Sure.asks m p) → (Sure.sure → Given m v) → Safe Sure Any m (assigned_at p v m)
   assigned_at_safe p v m r i h = assigned_from p.root p.steps p.of p.bounded p.makes v m r i h
 
-  item_given : (base : Val) (vs : List Val) (v : Val) (m : Memory) → (Sure → Ready m) → (Sure → Given m base) → Safe Sure Any m (on_fine (item_by base vs m) (λ w m1. on_fine (plain v m1) (λ x m2. done m2)))
+  item_given : (base : Val) (vs : List Val) (v : Val) (m : Memory) → (Sure.sure → Ready Sure.asks m) → (Sure.sure → Given m base) → Safe Sure Any m (on_fine (item_by base vs m) (λ w m1. on_fine (plain v m1) (λ x m2. done m2)))
   item_given base vs v m r h = then_next (item_safe base vs m r h) (λ w m1 n1 q1. then_next (plain_any Sure v m1) (λ x m2 n2 q2. fine (λ s. tt)))
 
-  pub item_assigned_safe : (base : Val) (vs : List Val) (v : Val) (m : Memory) → (Sure → Ready m) → (Sure → Given m base) → Safe Sure Any m (item_assigned base vs v m)
+  pub item_assigned_safe : (base : Val) (vs : List Val) (v : Val) (m : Memory) → (Sure.sure → Ready Sure.asks m) → (Sure.sure → Given m base) → Safe Sure Any m (item_assigned base vs v m)
   item_assigned_safe (object o) vs v m r h = then_next (item_of_object o vs m r) (λ w m1 n q. written_default_safe w v m1)
   item_assigned_safe base vs v m r h = item_given base vs v m r h
 
@@ -354,21 +360,21 @@ module _ (Sure : Type 0) where
   through_safe places (object o) v m = written_default_safe (object o) v m
   through_safe places w v m = both places (fine (λ s. tt)) (bad 438 m)
 
-  set_through : (d : Declarations) (x : HostRef) (how : HostMember) (vs : List Val) (begun v : Val) (m : Memory) → (Sure → Ready m) → (Sure → Given m begun)
+  set_through : (d : Declarations) (x : HostRef) (how : HostMember) (vs : List Val) (begun v : Val) (m : Memory) → (Sure.sure → Ready Sure.asks m) → (Sure.sure → Given m begun)
       → Safe Sure Any m (on_fine (member_by d x how vs begun m) (λ w m1. assigned_through (are_places x how (length vs)) w v m1))
   set_through d x how vs begun v m r h = then_next (member_by_safe d x how vs begun m r h) (λ w m1 n q. through_safe (are_places x how (length vs)) w v m1)
 
-  member_set_safe : (d : Declarations) (x : HostRef) (how : HostMember) (vs : List Val) (begun v : Val) (m : Memory) → (Sure → Ready m) → (Sure → Given m begun) → Safe Sure Any m (member_set d x how vs begun v m)
+  member_set_safe : (d : Declarations) (x : HostRef) (how : HostMember) (vs : List Val) (begun v : Val) (m : Memory) → (Sure.sure → Ready Sure.asks m) → (Sure.sure → Given m begun) → Safe Sure Any m (member_set d x how vs begun v m)
   member_set_safe d x (Call n) vs begun v m r h = bad 438 m
   member_set_safe d host.Application (Write n) [] begun v m r h = mark_safe n v m
   member_set_safe d (host.Area s t l rows c) (Write n) [] begun v m r h = area_written_safe (area_in s t l rows c) v m
   member_set_safe d x how vs begun v m r h = set_through d x how vs begun v m r h
 
-  through_item_safe : (o : ℕ) (how : CollectionMember) (vs : List Val) (v : Val) (m : Memory) → (Sure → Ready m) → Safe Sure Any m (through_item o how vs v m)
+  through_item_safe : (o : ℕ) (how : CollectionMember) (vs : List Val) (v : Val) (m : Memory) → (Sure.sure → Ready Sure.asks m) → Safe Sure Any m (through_item o how vs v m)
   through_item_safe o is_item vs v m r = then_next (item_found_safe Sure o vs m r) (λ w m1 n q. written_default_safe w v m1)
   through_item_safe o member vs v m r = bad 438 m
 
-  pub member_assigned_safe : (d : Declarations) (name : List ℕ) (vs : List Val) (base begun v : Val) (m : Memory) → (Sure → Ready m) → (Sure → Given m begun) → Safe Sure Any m (member_assigned d name vs base begun v m)
+  pub member_assigned_safe : (d : Declarations) (name : List ℕ) (vs : List Val) (base begun v : Val) (m : Memory) → (Sure.sure → Ready Sure.asks m) → (Sure.sure → Given m begun) → Safe Sure Any m (member_assigned d name vs base begun v m)
   member_assigned_safe d name vs (object (Heap id)) begun v m r h = then_safe r (collection_member_safe Sure id.0 name m) (λ how m1 r1 n1 q1. through_item_safe id.0 how (as_given vs) v m1 r1)
   member_assigned_safe d name vs (object (Host x)) begun v m r h =
       then_safe r (answered_any (member_of x name) m) (λ how m1 r1 n1 q1. member_set_safe d x how (as_given vs) begun v m1 r1 (still n1 begun h))

@@ -16,9 +16,9 @@ use Rattle.vba_meaning.specs.Collections.{CollectionMember, is_add, is_count, is
 use Rattle.object_counts.proofs.Indexed.{times-append}
 use Rattle.object_counts.proofs.Stored.{object_in}
 use Rattle.object_lives.proofs.Values.{none_in, in_self, Refers}
-use Rattle.object_lives.proofs.Held.{nth_value}
+use Rattle.object_lives.proofs.Held.{World, nth_value}
 use Rattle.object_lives.proofs.Marks.{kept_marked}
-use Rattle.object_lives.proofs.Near.{Present, AllThere, Ready, Later, reach, like_same, present_set, set_present, held_there}
+use Rattle.object_lives.proofs.Near.{Present, AllThere, Ready, Later, low, like_same, present_set, set_present, held_there}
 use Rattle.object_lives.proofs.Chains.{Any, Given, GivenAll, Safe, fine, fine_in, bad, out, then_next, then_safe, both, answered_any}
 use Rattle.object_lives.proofs.Variables.{plain_any, read_value_safe}
 use Rattle.object_lives.proofs.Arrays.{field_there}
@@ -63,7 +63,7 @@ alone_there bs o h q lt = subst (λ n. Present bs n) (sym (itself o q lt)) h
 abbrev pub GivenFirst : Memory → Val × ℕ → Type 0
 GivenFirst m r = Refers (top m).held r.0
 
-module _ (Sure : Type 0) where
+module _ (Sure : World) where
   pub found_or_any : {A : Type 0} (n : ℕ) (x : Option A) (m : Memory) → Safe Sure Any m (found_or n x m)
   found_or_any n None m = bad n m
   found_or_any n (Some v) m = fine (λ s. tt)
@@ -83,7 +83,7 @@ module _ (Sure : Type 0) where
   place_of_item_safe : (o : ℕ) (v : Val) (m : Memory) → Safe Sure Any m (place_of_item o v m)
   place_of_item_safe o v m = then_next (plain_any Sure v m) (λ w m1 n q. place_by_safe o w m1)
 
-  pub item_found_safe : (o : ℕ) (vs : List Val) (m : Memory) → (Sure → Ready m) → Safe Sure Given m (item_found o vs m)
+  pub item_found_safe : (o : ℕ) (vs : List Val) (m : Memory) → (Sure.sure → Ready Sure.asks m) → Safe Sure Given m (item_found o vs m)
   item_found_safe o [] m r = bad 449 m
   item_found_safe o (v ∷ []) m r =
       then_safe r (place_of_item_safe o v m) (λ i m1 r1 n q. read_value_safe Sure (slice_get (items_of o m1) i) m1 (λ s. field_there o i m1 (slice_get (items_of o m1) i) refl (r1 s)))
@@ -91,7 +91,7 @@ module _ (Sure : Type 0) where
 
   -- ---- an item leaves
 
-  out_later : (o i : ℕ) (m : Memory) → (Sure → Present m.objects o)
+  out_later : (o i : ℕ) (m : Memory) → (Sure.sure → Present m.objects o)
       → Later Sure m [] (waits (objects_in (slice_index_or (items_of o m) i empty)) (with_items o (without_at i (items_of o m)) (without_at i (keys_of o m)) m))
   out_later o i m h =
       let b = record (object_at m o) { fields = without_at i (items_of o m); keys = without_at i (keys_of o m) } in
@@ -107,19 +107,20 @@ module _ (Sure : Type 0) where
           held = in_self (top m).held;
           called = refl;
           me = refl;
-          below = like_same (reach m).floor (rest m.frames);
+          below = like_same (low m) (rest m.frames);
           bare = λ g. g;
+          lent = λ a g. g;
         };
       }
 
-  removed_safe : (o : ℕ) (vs : List Val) (m : Memory) → (Sure → Present m.objects o) → Safe Sure GivenFirst m (item_removed o vs m)
+  removed_safe : (o : ℕ) (vs : List Val) (m : Memory) → (Sure.sure → Present m.objects o) → Safe Sure GivenFirst m (item_removed o vs m)
   removed_safe o [] m h = bad 449 m
   removed_safe o (v ∷ []) m h = then_next (place_of_item_safe o v m) (λ i m1 n q. fine_in (out_later o i m1 (λ s. (n s).there o (h s))) (λ s. none_in _))
   removed_safe o (v ∷ w ∷ vs) m h = bad 450 m
 
   -- ---- an item is added
 
-  in_later : (o i : ℕ) (v : Val) (key : Option (List ℕ)) (m : Memory) → (Sure → Present m.objects o) → (Sure → AllThere m.objects (objects_in v))
+  in_later : (o i : ℕ) (v : Val) (key : Option (List ℕ)) (m : Memory) → (Sure.sure → Present m.objects o) → (Sure.sure → AllThere m.objects (objects_in v))
       → Later Sure m [] (with_items o (put_at i v (items_of o m)) (put_at i key (keys_of o m)) m)
   in_later o i v key m h g =
       let b = record (object_at m o) { fields = put_at i v (items_of o m); keys = put_at i key (keys_of o m) } in
@@ -134,12 +135,13 @@ module _ (Sure : Type 0) where
           held = in_self (top m).held;
           called = refl;
           me = refl;
-          below = like_same (reach m).floor (rest m.frames);
+          below = like_same (low m) (rest m.frames);
           bare = λ f. f;
+          lent = λ a f. f;
         };
       }
 
-  put_safe : (o i : ℕ) (v : Val) (key : Option (List ℕ)) (m : Memory) → (Sure → Present m.objects o) → (Sure → AllThere m.objects (objects_in v)) → Safe Sure GivenFirst m (put_in o i v key m)
+  put_safe : (o i : ℕ) (v : Val) (key : Option (List ℕ)) (m : Memory) → (Sure.sure → Present m.objects o) → (Sure.sure → AllThere m.objects (objects_in v)) → Safe Sure GivenFirst m (put_in o i v key m)
   put_safe o i v key m h g = both (nat_lt (length (items_of o m)) 1048576) (fine_in (in_later o i v key m h g) (λ s. none_in _)) (out (outside limit.Elements) m)
 
   unused_safe : (key : List ℕ) (x : Option ℕ) (m : Memory) → Safe Sure Any m (unused_key key x m)
@@ -156,7 +158,7 @@ module _ (Sure : Type 0) where
   new_place_safe o missing after m = then_next (place_of_item_safe o after m) (λ i m1 n q. fine {v = suc i} (λ s. tt))
   new_place_safe o before after m = place_of_item_safe o before m
 
-  added_safe : (o : ℕ) (v key before after : Val) (m : Memory) → (Sure → Present m.objects o) → (Sure → AllThere m.objects (objects_in v)) → Safe Sure GivenFirst m (item_added o v key before after m)
+  added_safe : (o : ℕ) (v key before after : Val) (m : Memory) → (Sure.sure → Present m.objects o) → (Sure.sure → AllThere m.objects (objects_in v)) → Safe Sure GivenFirst m (item_added o v key before after m)
   added_safe o missing key before after m h g = bad 449 m
   added_safe o v key before after m h g =
       both (is_given before && is_given after) (bad 5 m)
@@ -168,7 +170,7 @@ module _ (Sure : Type 0) where
   none_waits : {e : Effect Val} {m : Memory} → Safe Sure Given m e → Safe Sure GivenFirst m (with_none e)
   none_waits a = then_next a (λ v m1 n q. fine q)
 
-  pub collection_used_safe : (o : ℕ) (how : CollectionMember) (vs : List Val) (m : Memory) → (Sure → Ready m) → (Sure → Present m.objects o) → (Sure → GivenAll m vs)
+  pub collection_used_safe : (o : ℕ) (how : CollectionMember) (vs : List Val) (m : Memory) → (Sure.sure → Ready Sure.asks m) → (Sure.sure → Present m.objects o) → (Sure.sure → GivenAll m vs)
       → Safe Sure GivenFirst m (collection_used o how vs m)
   collection_used_safe o is_add vs m r h g =
       added_safe o (slice_index_or vs 0 missing) (slice_index_or vs 1 missing) (slice_index_or vs 2 missing) (slice_index_or vs 3 missing) m h

@@ -1,6 +1,7 @@
 pub mod Values
 pub mod LibraryValues
 pub mod Marks
+pub mod Firmness
 pub mod Held
 pub mod Near
 pub mod Chains

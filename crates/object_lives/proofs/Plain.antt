@@ -54,6 +54,13 @@ plain_code code w (suc pc) v e =
     let is = of_some code.entries (length code.instrs) (suc pc) (omega (arith, w.first)) (within_length code.instrs (suc pc) (Push v) e) in
     constant_in v (w.sound is.0 (suc pc) (Push v) is.1 e)
 
+-- procedures end at the first address alone
+pub leave_first : (code : Code) → WellFormed code → (pc : ℕ) → slice_get code.instrs pc ≡ Some Leave → pc ≡ 0
+leave_first code w zero e = refl
+leave_first code w (suc pc) e =
+    let is = of_some code.entries (length code.instrs) (suc pc) (omega (arith, w.first)) (within_length code.instrs (suc pc) Leave e) in
+    absurd (w.sound is.0 (suc pc) Leave is.1 e)
+
 -- ---- what parameters have to which nothing is given
 
 default_in : (q : Parameter) → IfThere IsConstant q.default → SlotIn (bare_from 0) (slot_left_out q)

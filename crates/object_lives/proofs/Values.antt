@@ -28,6 +28,7 @@ use Rattle.vba_values.specs.Coerce.{is_text, coerce_of, to_boolean, to_whole, to
 use Rattle.vba_values.specs.Operands.{is_no_operand, is_null, work_of, number_of, count_of}
 use Rattle.vba_values.specs.Arithmetic.{exact_count, joined, widened_to, widened, whole_result, worked, of_numbers, text_beside_currency, text_before, text_behind, with_text, arithmetic, as_whole, divided, division, negated, double_result}
 use Rattle.vba_values.specs.Comparison.{is_variant, answer_of, order_of, comparison}
+use Rattle.vba_values.specs.Errors.{type_mismatch}
 use Rattle.vba_values.specs.Logic.{logic_of_numbers, logic_of, is_zero, beside_null, before_null, behind_null, logic_before_null, logic_behind_null, logic_whole, logical, complement, logical_not, all_of}
 use Rattle.vba_values.specs.Operators.{join_text, join_behind, join, binary_of, unary_of}
 use Rattle.arrays_udt.specs.Fields.{Field, has_bounds, stored, fields_at}
@@ -425,6 +426,24 @@ unary_free o v of = negated_free (is_variant of) v
 
 pub operated_in : (xs : List ℕ) (o : OpKind) (l : Val) (ld : Declared) (r : Val) (rd : Declared) (compare : Compare) → OkIn xs (binary_of o l ld r rd compare)
 operated_in xs o l ld r rd compare = free_in xs (binary_of o l ld r rd compare) (binary_free o l ld r rd compare)
+
+-- what is compared refers to nothing
+plain_operand : (v : Val) → is_no_operand v ≡ false → Refers [] v
+plain_operand missing e = absurd cc
+plain_operand (object reference) e = absurd cc
+plain_operand (array bounds of items) e = absurd cc
+plain_operand (udt number fields) e = absurd cc
+plain_operand v e = none_in []
+
+neither : (b c : Bool) → (b || c) ≡ false → (b ≡ false) × (c ≡ false)
+neither true c e = absurd cc
+neither false c e = (refl, e)
+
+pub compared_plain : (o : OpKind) (compare : Compare) (l : Val) (ld : Declared) (r : Val) (rd : Declared) (v : Val) → comparison o compare l ld r rd ≡ Ok v → Refers [] l × Refers [] r
+compared_plain o compare l ld r rd v e = by_test (is_no_operand l || is_no_operand r) refl e where
+  by_test : (t : Bool) → (is_no_operand l || is_no_operand r) ≡ t → (if t then Err type_mismatch else if is_null l || is_null r then Ok null else answer_of o (order_of compare l ld r rd)) ≡ Ok v → Refers [] l × Refers [] r
+  by_test true k h = absurd cc
+  by_test false k h = (let n = neither (is_no_operand l) (is_no_operand r) k in (plain_operand l n.0, plain_operand r n.1))
 
 pub operated_alone_in : (xs : List ℕ) (o : OpKind) (v : Val) (of : Declared) → OkIn xs (unary_of o v of)
 operated_alone_in xs o v of = free_in xs (unary_of o v of) (unary_free o v of)
